@@ -13,7 +13,7 @@ use Rattle.mes_stream.specs.declared.fault.Fault.TheVariants.{EndsInsideChunks}
 use Rattle.mes_stream.specs.declared.fault.Report.{Report}
 use Rattle.mes_stream.specs.declared.fault.Stop.{Stop}
 
--- the events and the result are those of bytes with this reading
+-- reading a device returns the events and the result, if its bytes have the given reading
 abbrev pub IsAnswer : StreamReading Event → List Event → Result Report Stop → Type 0
 IsAnswer (Goes values) events (Ok report) = ⊥
 IsAnswer (Goes values) events (Err stop) = (events ≡ values) × (stop.fault ≡ EndsInsideChunks)
@@ -25,7 +25,7 @@ IsAnswer (Stops front byte values fault) events (Err stop) = (events ≡ values)
 abbrev pub Answered : ℕ → List ℕ → List Event → Result Report Stop → Type 0
 Answered limit w events outcome = (reading : StreamReading Event) × ReadsStream Spells IsEventRefusal 0 limit w reading × IsAnswer reading events outcome
 
--- the reading of the consumed bytes is a reading of all bytes
+-- the reading of the consumed bytes is a reading of all bytes w of the device
 answered_by : (limit reads : ℕ) (old new : Counts) (left w taken : List ℕ) (events : List Event) (outcome : Result Report Stop) → w ≡ taken ++ left → EndsStream limit reads old new (Some left) taken events outcome → IsDecidedByBytes outcome
     → Answered limit w events outcome
 answered_by limit reads old new left w taken events (Ok report) whole (inl (at, made)) decided =

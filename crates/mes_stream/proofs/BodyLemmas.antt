@@ -1,4 +1,4 @@
--- The state of a reader of records, over the prefixes of a run.
+-- The state of a reader of records after each prefix of a run of bytes.
 use Rattle.std.proofs.Common.{◌≡◌, ◌≢◌, ℕ, ◌+◌, ◌-◌, ◌^◌, ◌<◌, ◌≤◌, List, [], ◌∷◌, ◌++◌, length, take, drop, get_or, sym, ◌∙◌, ap, append_assoc, append-nil, arith, refl, subst, inl, inr, length-append, length-take-le, take-append-drop, take-add}
 use Rattle.std.specs.Prelude.{slice_index, Result, Ok, Err, OnOk}
 use Rattle.std.proofs.lemmas.List.{take_more}
@@ -31,7 +31,7 @@ last_split : (r : List ℕ) → r ≢ [] → (front : List ℕ) × (last : ℕ) 
 last_split [] some = absurd (some refl)
 last_split (a ∷ r) some = last_of a r
 
--- one byte of data is missing before the last byte of a record with data
+-- before the last byte of a record that has data, exactly one byte of data is missing
 last_begun : (limit : ℕ) (x r : List ℕ) (c : ℕ) → IsRecord (x ++ c ∷ []) r limit → r ≢ [] → (front : List ℕ) × DataBegun x front 1 limit × (r ≡ front ++ c ∷ [])
 last_begun limit x r c is some =
     let d = last_split r some in
@@ -75,15 +75,15 @@ module _ {R E : Type 0} (holds : R → List ℕ → Type 0) (spells : List ℕ �
   records_more limit b f r (e ∷ values) value (front, rest, r0, is_front, before, spelt, following) is says =
       (front, rest ++ f, r0, is_front, before, (ap (λ (x : List ℕ). x ++ f) spelt ∙ append_assoc front rest f), records_more limit rest f r values value following is says)
 
-  -- consumed bytes are a prefix of a stream
+  -- the bytes b that a reader has consumed are a prefix of a stream
   pub live_of : (d : Body R) (b : List ℕ) (values : List E) → BodyRepresents holds spells ahead d b values → BodyLive spells (limit_of d.records) b values
   live_of d b values s = record { whole = s.whole; x = s.x; spelt = s.spelt; records = s.records; is = (s.r, begun_of d.records s.x s.r s.state) }
 
-  -- `done` is the number of complete records
+  -- the number of the next record is `done` + 1
   pub number_of : (d : Body R) (b : List ℕ) (values : List E) → BodyRepresents holds spells ahead d b values → saturated (d.done + 1) ≡ number_after ahead values
   number_of d b values s = ap (λ (n : ℕ). saturated (n + 1)) s.count ∙ saturated_more (ahead + length values)
 
-  -- the bytes after the complete records, with p more
+  -- `Is` holds for the bytes after the complete records, followed by p
   pub behind_on : (d : Body R) (b p : List ℕ) (values : List E) (s : BodyRepresents holds spells ahead d b values) (Is : List ℕ → Type 0) → Is (s.x ++ p)
       → Following spells (limit_of d.records) Is (b ++ p) values
   behind_on d b p values s Is h = record {
@@ -94,7 +94,7 @@ module _ {R E : Type 0} (holds : R → List ℕ → Type 0) (spells : List ℕ �
     is = h;
   }
 
-  -- the state after bytes that end no record
+  -- the state after bytes p that end no record
   pub stands_on : (d new : Body R) (b p r : List ℕ) (values : List E) (s : BodyRepresents holds spells ahead d b values) → new.done ≡ d.done
       → limit_of new.records ≡ limit_of d.records → holds new.reader r → RecordStands new.records (s.x ++ p) r → BodyRepresents holds spells ahead new (b ++ p) values
   stands_on d new b p r values s done limit kept state = record {
@@ -125,20 +125,20 @@ module _ {R E : Type 0} (holds : R → List ℕ → Type 0) (spells : List ℕ �
     limit = rw limit s.limit;
   }
 
-  -- before the first byte of a run the bytes are a prefix of a stream
+  -- the consumed bytes before a run are a prefix of a stream
   pub first_live : (d : Body R) (b run : List ℕ) (values : List E) (n : ℕ) → BodyRepresents holds spells ahead d b values → n < 1
       → BodyLive spells (limit_of d.records) (b ++ take n run) values
   first_live d b run values n s first =
       let none : 0 ≡ n = omega arith in
       subst (λ (m : ℕ). BodyLive spells (limit_of d.records) (b ++ take m run) values) none (rw (append-nil b) (live_of d b values s))
 
-  -- within a size line the bytes are a prefix of a stream
+  -- the bytes up to a byte in a size line are a prefix of a stream
   pub size_live : (d : Body R) (b run r : List ℕ) (values : List E) (n limit : ℕ) (s : BodyRepresents holds spells ahead d b values) → limit ≡ limit_of d.records
       → Begun (s.x ++ take n run) r limit → BodyLive spells limit (b ++ take n run) values
   size_live d b run r values n limit s same begun =
       rw same (behind_on d b (take n run) values s (λ x. (r : List ℕ) × Begun x r (limit_of d.records)) (r, rw same at begun))
 
-  -- within a run of data the bytes are a prefix of a stream
+  -- the bytes up to a byte of a record's data are a prefix of a stream
   pub data_on : (d : Body R) (b run : List ℕ) (values : List E) (n left : ℕ) (s : BodyRepresents holds spells ahead d b values) → n < left → n ≤ length run
       → DataBegun s.x s.r left (limit_of d.records) → DataBegun (s.x ++ take n run) (s.r ++ take n run) (left - n) (limit_of d.records)
   data_on d b run values n left s inside within begun =
@@ -157,7 +157,7 @@ module _ {R E : Type 0} (holds : R → List ℕ → Type 0) (spells : List ℕ �
       behind_on d b (take n run) values s (λ x. (r : List ℕ) × (left : ℕ) × DataBegun x r left (limit_of d.records) × Is r left)
       (s.r ++ take n run, left - n, data_on d b run values n left s inside within begun, is)
 
-  -- the record ends with the last of `count` bytes of a run
+  -- the record ends with the last of the first `count` bytes of a run
   pub ends_with : (d : Body R) (b run r : List ℕ) (values : List E) (count : ℕ) (s : BodyRepresents holds spells ahead d b values) (Is : List ℕ → Type 0) → 0 < count → count ≤ length run
       → IsRecord (s.x ++ take count run) r (limit_of d.records) → Is r
       → EndsRecord spells (limit_of d.records) (b ++ take (count - 1) run) values (slice_index run (count - 1)) Is
@@ -168,7 +168,7 @@ module _ {R E : Type 0} (holds : R → List ℕ → Type 0) (spells : List ℕ �
       (r, subst (λ (y : List ℕ). IsRecord y r (limit_of d.records)) (ap (λ (y : List ℕ). s.x ++ y) whole ∙ sym (append_assoc s.x (take (count - 1) run) (get_or run (count - 1) 0 ∷ []))) is, h)
 
   module _ (breaks : List ℕ → RecordError → Type 0) where
-    -- the record that ends there has no value, or an allocation for it failed
+    -- the record that ends after `count` bytes has no value, or an allocation for it failed
     pub refused_with : (d : Body R) (b run r : List ℕ) (values : List E) (count : ℕ) (why : RecordError) (s : BodyRepresents holds spells ahead d b values) → 0 < count → count ≤ length run
         → r ≢ [] → IsRecord (s.x ++ take count run) r (limit_of d.records) → breaks r why
         → BodyStops spells breaks ahead (limit_of d.records) (b ++ take (count - 1) run) values (slice_index run (count - 1)) (fault_of_record d.done why)
@@ -185,7 +185,7 @@ module _ {R E : Type 0} (holds : R → List ℕ → Type 0) (spells : List ℕ �
               (ends_with d b run r values count s (λ r. (r ≢ []) × breaks r refusal.NoMemory) some within is (filled, h)),
         )
 
-    -- the record ended with a run of data
+    -- the meaning of a step whose data ended the record, from the result `answer` for the record
     pub ends_as : (d mid new : Body R) (b run : List ℕ) (values : List E) (count left : ℕ) (answer : Result E RecordError) (s : BodyRepresents holds spells ahead d b values) → 0 < count → count ≤ length run → count ≤ left
         → DataBegun s.x s.r left (limit_of d.records) → mid.done ≡ d.done → limit_of new.records ≡ limit_of d.records
         → IsRecord (s.x ++ take count run) (s.r ++ take count run) (limit_of d.records) → RecordStands new.records [] []
@@ -206,7 +206,7 @@ run_split rest m lt =
     sym (take-append-drop (m + 1) rest) ∙ rw (take_more rest m 0 lt) (append_assoc (take m rest) (get_or rest m 0 ∷ []) (drop (m + 1) rest))
 
 module _ {E : Type 0} (framing : Framing) (spells : List ℕ → E → Type 0) (breaks : List ℕ → RecordError → Type 0) (ahead : ℕ) where
-  -- an error in the rest of a piece is an error of the piece
+  -- an error after `used` bytes of the rest of a piece is an error of the piece
   pub stops_in : (limit : ℕ) (b piece : List ℕ) (values : List E) (fault : Fault) (at used : ℕ) → at ≤ length piece → 0 < used → used ≤ length (drop at piece)
       → GoesIn framing spells limit ((b ++ take at piece) ++ take (used - 1) (drop at piece)) values
       → ByteStopsIn framing spells breaks ahead limit ((b ++ take at piece) ++ take (used - 1) (drop at piece)) values (slice_index (drop at piece) (used - 1)) fault
@@ -230,18 +230,18 @@ module _ {E : Type 0} (framing : Framing) (spells : List ℕ → E → Type 0) (
     stops = stops;
   }
 
--- the value of a complete record was appended to a list, or the reason why not
+-- `EndsInto` holds for a complete record whose value was appended to a list, or was not
 pub ends_into : {R E T : Type 0} (holds : R → List ℕ → Type 0) (spells : List ℕ → E → Type 0) (breaks : List ℕ → RecordError → Type 0) (old new : Body R) (r : List ℕ) (before after : List E) (result : Result T RecordError)
     → AddsValue spells breaks (holds new.reader []) r before after result → OnOk result (holds new.reader []) → new.done ≡ saturated (old.done + 1) → EndsInto holds spells breaks old new r before after result
 ends_into holds spells breaks old new r before after (Ok done) (value, says, is) ready more = (value, (says, ready, more), is)
 ends_into holds spells breaks old new r before after (Err why) (inl h, same) ready more = (inl (h, more), same)
 ends_into holds spells breaks old new r before after (Err why) (inr (none, has, next), same) ready more = (inr (none, (has.0, (has.1, next, more))), same)
 
--- the first `at` bytes of a piece, then `used` more of it
+-- the first `at` bytes of a piece and the next `used` bytes are the first `at + used` bytes
 pub piece_on : (b piece : List ℕ) (at used : ℕ) → (b ++ take at piece) ++ take used (drop at piece) ≡ b ++ take (at + used) piece
 piece_on b piece at used = append_assoc b (take at piece) (take used (drop at piece)) ∙ ap (λ (p : List ℕ). b ++ p) (sym (take-add at used piece))
 
--- a result with a value in the rest of a piece is one of the piece
+-- the state after `used` bytes of the rest of a piece is that after `at + used` bytes of the piece
 pub value_on : {E : Type 0} (Represents : List ℕ → List E → Type 0) (b piece : List ℕ) (values more : List E) (value : E) (at used : ℕ)
     → Represents ((b ++ take at piece) ++ take used (drop at piece)) ((values ++ more) ++ value ∷ []) → Represents (b ++ take (at + used) piece) (values ++ (more ++ value ∷ []))
 value_on {E = E} Represents b piece values more value at used s =

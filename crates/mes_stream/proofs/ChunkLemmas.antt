@@ -1,4 +1,4 @@
--- The state of a reader of a chunked stream, over the prefixes of a piece.
+-- The state of a reader of a chunked stream after each prefix of a piece.
 use Rattle.std.proofs.Common.{◌≡◌, ℕ, ◌+◌, ◌-◌, ◌<◌, ◌≤◌, List, [], ◌∷◌, ◌++◌, length, take, drop, get_or, sym, ◌∙◌, ap, append_assoc, append-nil, arith, refl, subst, inl, inr}
 use Rattle.std.specs.Prelude.{slice_index}
 use Rattle.std.proofs.lemmas.List.{take_more}
@@ -26,7 +26,7 @@ use Rattle.mes_stream.proofs.BodyLemmas.{live_of, piece_on}
 pub take_whole : (piece : List ℕ) (used : ℕ) → used ≡ length piece → take used piece ≡ piece
 take_whole piece used all = grind (arith, common_steps)
 
--- an error of the body is an error of the stream
+-- an error detected at a byte of the body's data is an error of the stream
 pub shows_data : {E : Type 0} (spells : List ℕ → E → Type 0) (breaks : List ℕ → RecordError → Type 0) (ahead limit : ℕ) (w body : List ℕ) (values : List E) (c : ℕ) (fault : Fault)
     → IsOpen w body → IsOpen (w ++ c ∷ []) (body ++ c ∷ []) → BodyShows spells breaks ahead limit body values c fault → ChunkedShows spells breaks ahead limit w values c fault
 shows_data spells breaks ahead limit w body values c (Frame f) before following h = inr (body, before, following, h)
@@ -47,24 +47,24 @@ stops_data spells breaks ahead limit w body values c fault before following stop
 ]
 
 module _ {R E : Type 0} (holds : R → List ℕ → Type 0) (spells : List ℕ → E → Type 0) (ahead : ℕ) where
-  -- consumed bytes are a prefix of a stream
+  -- the bytes w that a reader has consumed are a prefix of a stream
   pub chunked_live : (d : ChunkedBody R) (w : List ℕ) (values : List E) → ChunkedRepresents holds spells ahead d w values → Live spells (limit_of d.body.records) w values
   chunked_live d w values s = (s.content, open_of d.chunks w s.content s.chunks, live_of holds spells ahead d.body s.content values s.body)
 
-  -- before the first byte of a piece the bytes are a prefix of a stream
+  -- the consumed bytes before a piece are a prefix of a stream
   pub first_before : (d : ChunkedBody R) (w rest : List ℕ) (values : List E) (n : ℕ) → ChunkedRepresents holds spells ahead d w values → n < 1
       → Live spells (limit_of d.body.records) (w ++ take n rest) values
   first_before d w rest values n s first =
       let none : 0 ≡ n = omega arith in
       subst (λ (m : ℕ). Live spells (limit_of d.body.records) (w ++ take m rest) values) none (rw (append-nil w) (chunked_live d w values s))
 
-  -- within a run of data the bytes are a prefix of a stream
+  -- the bytes up to a byte of data in a chunk are a prefix of a stream
   pub run_before : (d : ChunkedBody R) (limit : ℕ) (w run : List ℕ) (values : List E) (n count : ℕ) (s : ChunkedRepresents holds spells ahead d w values) → length run ≡ count → count ≤ remaining_of d.chunks → n ≤ count
       → BodyLive spells limit (s.content ++ take n run) values → Live spells limit (w ++ take n run) values
   run_before d limit w run values n count s len room within live =
       (s.content ++ take n run, fronts_of d.chunks w s.content run n count room len within s.chunks, live)
 
-  -- a byte of a run of data is a byte of the body
+  -- a byte of data in a chunk is a byte of the body: `AtData` holds for it
   pub run_at : (d : ChunkedBody R) (w run : List ℕ) (values : List E) (used count : ℕ) (Is : List ℕ → List E → Type 0) (s : ChunkedRepresents holds spells ahead d w values) → length run ≡ count → count ≤ remaining_of d.chunks
       → 0 < used → used ≤ count → Is (s.content ++ take (used - 1) run) values → AtData Is (w ++ take (used - 1) run) values (slice_index run (used - 1))
   run_at d w run values used count Is s len room some within is =
@@ -90,7 +90,7 @@ module _ {R E : Type 0} (holds : R → List ℕ → Type 0) (spells : List ℕ �
         let at = run_at d w run values used count (λ body vs. BodyStops spells breaks ahead limit body vs (slice_index run (used - 1)) fault) s len room some within stops in
         stops_data spells breaks ahead limit (w ++ take (used - 1) run) at.0 values (slice_index run (used - 1)) fault at.1 at.2 at.3
 
-    -- the result of the body for a run of data
+    -- the result of the stream for data in a chunk, from the result of the body
     pub run_says : (d new : ChunkedBody R) (w run : List ℕ) (values : List E) (used count : ℕ) (answer : Decoded E Fault) (s : ChunkedRepresents holds spells ahead d w values) → length run ≡ count → count ≤ remaining_of d.chunks
         → 0 < used → used ≤ count → ChunkRepresents new.chunks (w ++ take used run) (s.content ++ take used run)
         → SaysIn Plain (BodyRepresents holds spells ahead new.body) spells breaks ahead (limit_of new.body.records) s.content values run used answer → SaysIn Chunked (ChunkedRepresents holds spells ahead new) spells breaks ahead (limit_of new.body.records) w values run used answer
@@ -105,7 +105,7 @@ module _ {R E : Type 0} (holds : R → List ℕ → Type 0) (spells : List ℕ �
         run_stops d (limit_of new.body.records) w run values used count fault s len room some within taken
 
 module _ {E : Type 0} (framing : Framing) (Represents : List ℕ → List E → Type 0) (spells : List ℕ → E → Type 0) (breaks : List ℕ → RecordError → Type 0) (ahead limit : ℕ) where
-  -- a result holds for any split of the same bytes
+  -- the meaning of a result does not depend on where the same bytes are cut into w and a piece
   pub says_as : (w v run rest : List ℕ) (values : List E) (used most : ℕ) (answer : Decoded E Fault) → w ++ take used run ≡ v ++ take most rest → w ++ take (used - 1) run ≡ v ++ take (most - 1) rest
       → slice_index run (used - 1) ≡ slice_index rest (most - 1) → SaysIn framing Represents spells breaks ahead limit w values run used answer → SaysIn framing Represents spells breaks ahead limit v values rest most answer
   says_as w v run rest values used most out.More same front last h = subst (λ (y : List ℕ). Represents y values) same h
@@ -119,7 +119,7 @@ module _ {E : Type 0} (framing : Framing) (Represents : List ℕ → List E → 
       subst (λ (y : List ℕ). ByteStopsIn framing spells breaks ahead limit y values (slice_index rest (most - 1)) fault) front
       (subst (λ (c : ℕ). ByteStopsIn framing spells breaks ahead limit (w ++ take (used - 1) run) values c fault) last h)
 
-  -- the result for the first byte of a piece is one of the piece
+  -- a result for the first byte of a piece is a result for the piece
   pub says_first : (w rest : List ℕ) (values : List E) (answer : Decoded E Fault) → 0 < length rest → SaysIn framing Represents spells breaks ahead limit w values (slice_index rest 0 ∷ []) 1 answer
       → SaysIn framing Represents spells breaks ahead limit w values rest 1 answer
   says_first w [] values answer some h = absurd (omega (arith, some))
@@ -134,14 +134,14 @@ module _ {E : Type 0} (framing : Framing) (Represents : List ℕ → List E → 
   index_drop : (m n : ℕ) (xs : List ℕ) → get_or (drop n xs) m 0 ≡ get_or xs (n + m) 0
   index_drop m n xs = grind (arith, common_steps)
 
-  -- the result for a prefix of a piece is one of the piece
+  -- a result for a prefix of a piece is a result for the piece
   pub says_more : (w rest : List ℕ) (values : List E) (used count : ℕ) (answer : Decoded E Fault) → 0 < used → used ≤ count → SaysIn framing Represents spells breaks ahead limit w values (take count rest) used answer
       → SaysIn framing Represents spells breaks ahead limit w values rest used answer
   says_more w rest values used count answer some within h =
       says_as w w (take count rest) rest values used used answer (ap (λ (y : List ℕ). w ++ y) (take_take used count rest within)) (ap (λ (y : List ℕ). w ++ y) (take_take (used - 1) count rest (omega (arith, within))))
       (index_take (used - 1) count rest (omega (arith, some, within))) h
 
-  -- the result for the rest of a piece is one of the piece
+  -- a result for the rest of a piece is a result for the piece
   pub says_on : (w piece : List ℕ) (values : List E) (at used : ℕ) (answer : Decoded E Fault) → 0 < used → SaysIn framing Represents spells breaks ahead limit (w ++ take at piece) values (drop at piece) used answer
       → SaysIn framing Represents spells breaks ahead limit w values piece (at + used) answer
   says_on w piece values at used answer some h =

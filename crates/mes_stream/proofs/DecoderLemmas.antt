@@ -1,4 +1,4 @@
--- The result of a decoder follows from that of its reader.
+-- The result of a decoder follows from the result of its reader.
 use Rattle.std.proofs.Common.{◌≡◌, ℕ, List, None, Some}
 use Rattle.mes_stream.specs.declared.record_error.RecordError.{RecordError}
 use Rattle.mes_stream.specs.Framings.{SaysIn}
@@ -16,7 +16,7 @@ says_ended framing Old New spells breaks ahead limit w piece values used end (ou
 says_ended framing Old New spells breaks ahead limit w piece values used end out.End ends h = h
 says_ended framing Old New spells breaks ahead limit w piece values used end (out.Fault fault) ends h = h
 
--- a result holds for any state that the first state implies
+-- if `Old` implies `New`, the meaning of a result with the state `Old` implies that with `New`
 pub says_as_well : {E : Type 0} (framing : Framing) (Old New : List ℕ → List E → Type 0) (spells : List ℕ → E → Type 0) (breaks : List ℕ → RecordError → Type 0) (ahead limit : ℕ) (w piece : List ℕ) (values : List E) (used : ℕ) (answer : Decoded E Fault)
     → ((v : List ℕ) (vs : List E) → Old v vs → New v vs) → SaysIn framing Old spells breaks ahead limit w values piece used answer → SaysIn framing New spells breaks ahead limit w values piece used answer
 says_as_well framing Old New spells breaks ahead limit w piece values used out.More on h = on _ _ h

@@ -27,7 +27,7 @@ module _ {E : Type 0} (spells : List ℕ → E → Type 0) (breaks : List ℕ �
   none_said framing Represents ahead limit w values piece used answer n says is =
       no_entry framing ahead limit _ values _ n (subst (λ (o : Decoded E Fault). SaysIn framing Represents spells breaks ahead limit w values piece used o) is says)
 
-  -- F16 is no result of the end of the input
+  -- the end of the input never results in F16
   no_entry_at_end : (framing : Framing) (limit : ℕ) (w : List ℕ) (values : List E) (n : ℕ) → InputEnds {T = Unit {0}} framing spells limit w values (Err (BadEntry n)) → ⊥
   no_entry_at_end Plain limit w values n h = let clash : BadEntry n ≡ EndsInsideRecord = h.1 in absurd (cc)
   no_entry_at_end Chunked limit w values n h = let clash : BadEntry n ≡ EndsInsideChunks = h.1 in absurd (cc)

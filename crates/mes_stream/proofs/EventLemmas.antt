@@ -1,4 +1,4 @@
--- The errors of events, as errors of their records.
+-- Each error of an event is an error of the record with that event.
 use Rattle.std.proofs.Common.{◌≡◌, ◌≢◌, ℕ, ◌^◌, ◌<◌, List, length, ◌⊎◌, inl, inr, Option, Some, None, refl, ap, ap₂, sym, ◌∙◌, subst, arith}
 use Rattle.mes_json.specs.Lexer.{IsCountedFault, IsLexFault}
 use Rattle.mes_json.specs.Machine.{State, start, run}
@@ -22,9 +22,9 @@ use Rattle.mes_stream.specs.Refusals.{refusal_of, IsEventRefusal}
 use Rattle.mes_stream.specs.declared.record_error.RecordError.{RecordError}
 use Rattle.mes_stream.specs.declared.record_error.RecordError.TheVariants as refusal
 
--- ---- texts
+-- ---- errors of JSON texts
 
--- the bytes are a prefix of a JSON text, or of none
+-- the bytes p are a prefix of a JSON text, or are not a prefix of any JSON text
 begins_or_not : (p : List ℕ) → Begins MAX_NESTING p ⊎ (Begins MAX_NESTING p → ⊥)
 begins_or_not p = by (run MAX_NESTING start p) refl where
   by : (o : Option State) → run MAX_NESTING start p ≡ o → Begins MAX_NESTING p ⊎ (Begins MAX_NESTING p → ⊥)
@@ -37,7 +37,7 @@ begins_known p known = elim (begins_or_not p) [
   | inr not ↦ absurd (known not)
 ]
 
--- for fewer than 2^64 bytes the offset of the error is exact
+-- for fewer than 2^64 bytes the counted offset of the error is exact
 pub exact_fault : (d : ℕ) (b : List ℕ) (f : TextFault) → length b < 2 ^ 64 → IsCountedFault d b f → IsFault d b f
 exact_fault d b f short h =
     let most = place_within d b h.exact.byte h.exact.why h.is_fault.reason in
@@ -46,24 +46,24 @@ exact_fault d b f short h =
     let same : h.exact ≡ f = ap₂ (λ (n : ℕ) (y : TextFaultKind). let x : TextFault = record { byte = n; why = y } in x) byte (sym h.rounds.why) in
     subst (λ (x : TextFault). IsFault d b x) same h.is_fault
 
--- ---- events
+-- ---- errors of events
 
 pub refuses : (r : List ℕ) (f : RecordFault) → (f ≡ message.NoMemory → Begins MAX_NESTING r) → IsRecordFault r f → IsEventRefusal r (refusal_of f)
 refuses r (message.Text f) begins h = h
 refuses r (message.Field f) begins h = h
 refuses r message.NoMemory begins h = begins refl
 
--- the data are not JSON, or an allocation failed
+-- `IsEventRefusal` permits an error of the lexer: the data are not JSON, or an allocation failed
 pub text_refused : (r : List ℕ) (e : ReadFault) → length r < 2 ^ 64 → IsLexFault MAX_NESTING r e → (e ≡ read.NoMemory → Begins MAX_NESTING r) → IsEventRefusal r (refusal_of (of_read e))
 text_refused r (read.Text f) short h begins = exact_fault MAX_NESTING r f short h
 text_refused r read.NoMemory short h begins = begins refl
 
--- data of an event begin a JSON text, so `IsEventRefusal` permits that the list could not grow
+-- `IsEventRefusal` also permits that the list could not grow: data of an event begin a JSON text
 pub refused_of : (r : List ℕ) (why : RecordError) → IsRefused Spells IsEventRefusal r why → IsEventRefusal r why
 refused_of r why (inl h) = h
 refused_of r why (inr (none, (value, (t, text, reads)))) = subst (λ (f : RecordError). IsEventRefusal r f) (sym none) (text_begins r t text)
 
--- the error of an event is an error of its message
+-- the error of an event is an error of the message in the record
 refused : (r : List ℕ) (why : RecordError) → why ≢ refusal.NoMemory → IsEventRefusal r why → (f : RecordFault) × (f ≢ message.NoMemory) × IsRecordFault r f × (why ≡ refusal_of f)
 refused r (refusal.Text f) known h = (message.Text f, λ none. absurd (cc), h, refl)
 refused r (refusal.Field f) known h = (message.Field f, λ none. absurd (cc), h, refl)

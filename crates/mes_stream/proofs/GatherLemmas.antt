@@ -1,4 +1,4 @@
--- The joined data of short chunks.
+-- Lemmas about short chunks whose data are joined: the states, and a failed allocation.
 use Rattle.std.proofs.Common.{◌≡◌, ℕ, ◌+◌, ◌-◌, ◌<◌, ◌≤◌, List, [], ◌∷◌, ◌++◌, length, take, drop, get_or, refl, sym, ◌∙◌, ap, subst, append-nil, append_assoc, arith, inl, inr, length-append, length-drop, length-take-le}
 use Rattle.std.specs.Prelude.{slice_index, Bool, true, false, Result, Ok, Err, OnOk}
 use Rattle.std.proofs.lemmas.List.{take_more, take-append-le, get_or_push, get_or_append_left}
@@ -88,7 +88,7 @@ gathers_byte old new w body piece run places used before inside same represents 
           ];
     }
 
--- each index is before the end of the consumed bytes
+-- the index of each byte of data is less than the number of consumed bytes
 places_inside : (places : List ℕ) (used : ℕ) → ((k : ℕ) → k < length places → get_or places k 0 < used)
     → (k : ℕ) → k < length (places ++ used ∷ []) → get_or (places ++ used ∷ []) k 0 < used + 1
 places_inside places used each k within =
@@ -157,12 +157,12 @@ so_far_byte old mid new piece run places most used before inside room passes =
           gathers_byte mid new w body piece run places used gathered inside same (passes (w ++ take used piece) (body ++ run) (b ∷ []) refl gathered.represents);
     }
 
--- a clause about success follows from a stronger one
+-- if P implies Q, `OnOk result P` implies `OnOk result Q`
 pub on_ok : {T F : Type 0} (result : Result T F) (P Q : Type 0) → (P → Q) → OnOk result P → OnOk result Q
 on_ok (Ok done) P Q follows h = follows h
 on_ok (Err why) P Q follows h = h
 
--- a record continues after a run shorter than its room
+-- a record continues after fewer bytes of data than it needs
 passes_on : (new : RecordState) (x r p : List ℕ) (left : ℕ) (ended : Bool) → RecordPasses new x r p ended → length p < left → remaining_of new + length p ≡ left → RecordStands new (x ++ p) (r ++ p)
 passes_on new x r p left false passes short room = passes
 passes_on new x r p left true passes short room =
@@ -172,7 +172,7 @@ passes_on new x r p left true passes short room =
     absurd (omega (arith, spelt, len))
 
 module _ {R E : Type 0} (holds : R → List ℕ → Type 0) (spells : List ℕ → E → Type 0) (ahead : ℕ) where
-  -- the bytes are a prefix of a stream after data that do not end the record
+  -- after data p that do not end the record, the bytes are a prefix of a stream
   pub room_live : (d : Body R) (b p : List ℕ) (values : List E) → BodyRepresents holds spells ahead d b values → length p < remaining_of d.records → BodyLive spells (limit_of d.records) (b ++ p) values
   room_live d b p values s inside =
       subst (λ (y : List ℕ). BodyLive spells (limit_of d.records) (b ++ y) values) (take_whole p (length p) refl)
@@ -190,7 +190,7 @@ module _ {R E : Type 0} (holds : R → List ℕ → Type 0) (spells : List ℕ �
   none_live d b [] values s none = rw (append-nil b) (live_of holds spells ahead d b values s)
   none_live d b (c ∷ p) values s none = absurd (omega (arith, none))
 
-  -- the state after a run of data that does not end the record
+  -- the state after data p that do not end the record
   pub passed : (d new : Body R) (b p : List ℕ) (values : List E) (ended : Bool) (s : BodyRepresents holds spells ahead d b values) → new.done ≡ d.done → limit_of new.records ≡ limit_of d.records
       → RecordPasses new.records s.x s.r p ended → length p < remaining_of d.records → remaining_of new.records + length p ≡ remaining_of d.records → holds new.reader (s.r ++ p) → BodyRepresents holds spells ahead new (b ++ p) values
   passed d new b p values ended s done limit passes short room kept =
@@ -209,7 +209,7 @@ module _ {R E : Type 0} (holds : R → List ℕ → Type 0) (spells : List ℕ �
         ],
       )
 
-  -- an allocation failed at a byte of the data
+  -- an allocation failed at a byte of the data of the short chunks
   pub gathered_stops : (d : ChunkedBody R) (breaks : List ℕ → RecordError → Type 0) (new : ChunkState) (w rest run places : List ℕ) (values : List E) (used k at : ℕ) (s : ChunkedRepresents holds spells ahead d w values)
       → Gathers new w s.content rest used run places → k < length run → length run < remaining_of d.body.records → slice_index places k ≡ at → breaks (s.body.r ++ take k run) refusal.NoMemory
       → ChunkedStops spells breaks ahead (limit_of d.body.records) (w ++ take at rest) values (slice_index rest at) NoMemory

@@ -11,7 +11,7 @@ use Rattle.mes_frame.proofs.ChunkAnswers.{answer_at}
 use Rattle.mes_frame.proofs.ChunkPhases.{at_place}
 use Rattle.mes_frame.proofs.OneChunkReading.{one_reading}
 
--- the data of a reading
+-- the data of a chunked body with the given reading
 abbrev pub content_of : ChunkReading → List ℕ
 content_of (Begins body) = body
 content_of (Whole front body) = body
@@ -28,7 +28,7 @@ next_of s w body b at =
     let found = answer_at s.phase b at.part at.represents at.is in
     record { state = record { phase = found.phase }; answer = found.answer; steps = lift s.phase found.phase w body b found.answer at found.steps }
 
--- a reading of w whose data begin with the body
+-- a reading of w whose data begin with the bytes `body`
 record Grown (w body : List ℕ) : Type 0 where
   reading : ChunkReading
   reads : ReadsChunks w reading
@@ -59,7 +59,7 @@ state_of w body at =
     let placed = at_place at.part at.represents at.is in
     (record { phase = placed.phase }, within {Q = PhaseRepresents placed.phase} w body at placed.represents)
 
--- the data of a prefix begin the data of the whole
+-- the data of w ++ rest begin with the data `body` of its prefix w
 pub grows : (w body rest : List ℕ) (reading : ChunkReading) → IsOpen w body → ReadsChunks (w ++ rest) reading → (more : List ℕ) × (content_of reading ≡ body ++ more)
 grows w body rest reading at reads =
     let s = state_of w body at in

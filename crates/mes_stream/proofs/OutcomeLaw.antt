@@ -28,16 +28,17 @@ record StopsBy (stop : Stop) (fault : Fault) (used : ℕ) : Type 0 where
 same_stop : (s t : Stop) (fault : Fault) (used : ℕ) → StopsBy s fault used → StopsBy t fault used → s ≡ t
 same_stop s t fault used h k = ap₂ (λ (f : Fault) (n : ℕ). let stop : Stop = record { fault = f; used = n } in stop) (h.fault_is ∙ sym k.fault_is) (h.count ∙ sym k.count)
 
--- the consumed bytes, then those left in the device
+-- all bytes w of a device: `front` and `rest`, which were consumed, and `left`
 whole_of : (w taken left front rest : List ℕ) → w ≡ taken ++ left → taken ≡ front ++ rest → w ≡ front ++ (rest ++ left)
 whole_of w taken left front rest all is = all ∙ ap (λ (y : List ℕ). y ++ left) is ∙ append_assoc front rest left
 
 all_taken : (w taken left : List ℕ) → w ≡ taken ++ left → left ≡ [] → taken ≡ w
 all_taken w taken left all none = sym (append-nil taken) ∙ ap (λ (y : List ℕ). taken ++ y) (sym none) ∙ sym all
 
--- ---- chunked streams
+-- ---- the outcome for the bytes of a chunked stream
 
--- the events and the result are those of the bytes w with this reading, with these bytes left
+-- Reading a device with the bytes w returns the events and the result, if w has the given reading;
+-- the bytes `left` remain in the device.
 abbrev IsOutcome : StreamReading Event → List ℕ → List ℕ → List Event → Result Report Stop → Type 0
 IsOutcome (Goes values) w left events (Ok report) = ⊥
 IsOutcome (Goes values) w left events (Err stop) = (events ≡ values) × StopsBy stop EndsInsideChunks (length w)
@@ -108,7 +109,7 @@ pub one_stream_answer : OneStream → (limit : ℕ) (w : List ℕ) (events other
 one_stream_answer one limit w events others outcome other a b known sure =
     stream_from one limit a.reads b.reads a.old a.new b.old b.new a.left b.left w a.taken b.taken events others outcome other a.consumes b.consumes a.ends b.ends known sure
 
--- ---- plain RecordIO
+-- ---- the outcome for the bytes of plain RecordIO
 
 abbrev IsPlainOutcome : ℕ → PlainReading Event → List ℕ → List ℕ → List Event → Result Report Stop → Type 0
 IsPlainOutcome limit (plain.Goes values) w left events (Ok report) =

@@ -1,4 +1,4 @@
--- A decoder returns the same for any cut of the bytes into pieces.
+-- The outcome of a decoder does not depend on how the bytes are cut into pieces.
 use Rattle.std.proofs.Common.{◌≡◌, ◌≢◌, ℕ, ◌+◌, ◌-◌, ◌<◌, ◌≤◌, List, [], ◌∷◌, ◌++◌, length, take, drop, Option, None, Some, refl, ap, sym, ◌∙◌, subst, append_assoc, append-nil, inl, inr, arith, length-append, length-drop, length-take-le, take-append-drop}
 use Rattle.std.specs.Prelude.{slice_index}
 use Rattle.std.proofs.lemmas.List.{take-append-le, drop-append-le}
@@ -26,12 +26,12 @@ use Rattle.mes_stream.proofs.BodyLemmas.{run_split}
 use Rattle.mes_stream.proofs.ChunkLemmas.{says_more, says_on, take_whole}
 use Rattle.mes_stream.proofs.StreamLemmas.{goes_of}
 
--- ---- the calls together
+-- ---- several calls have the outcome of one call with all bytes
 
 abbrev Any : List ℕ → List Event → Type 0
 Any w events = Unit {0}
 
--- the result of one call with all bytes after w
+-- The outcome of one call with all bytes after w: the stream continues, has ended, or has an error.
 abbrev Reached : ℕ → List ℕ → List Event → List ℕ → ℕ → Option StreamEnd → Type 0
 Reached limit w events all used None = (used ≡ length all) × Live Spells limit (w ++ all) events
 Reached limit w events all used (Some end) = (0 < used) × (used ≤ length all) × SaysIn Chunked Any Spells IsEventRefusal 0 limit w events all used (answer_of end)
@@ -40,7 +40,7 @@ live_at : (s : State EventReader) (limit : ℕ) (w : List ℕ) (events : List Ev
 live_at (state.Going stream) limit w events h = goes_of HoldsData Spells stream Chunked limit w events h
 live_at (state.Ended end) limit w events h = absurd h
 
--- a result for the bytes after the first `at` is one for all bytes
+-- an outcome for the bytes after the first `at` bytes is an outcome for all bytes
 moved : (limit : ℕ) (w : List ℕ) (events : List Event) (all : List ℕ) (at used : ℕ) (end : Option StreamEnd) → at ≤ length all → Reached limit (w ++ take at all) events (drop at all) used end
     → Reached limit w events all (at + used) end
 moved limit w events all at used None within (is, live) = (
@@ -50,7 +50,7 @@ moved limit w events all at used None within (is, live) = (
 moved limit w events all at used (Some end) within (some, inside, says) =
     (omega (arith, some), omega (arith, inside, within, length-drop at all), says_on Chunked Any Spells IsEventRefusal 0 limit w all events at used (answer_of end) some says)
 
--- a result for a prefix of the bytes is one for all bytes
+-- an outcome for the bytes after the first `at` of a piece is an outcome for all bytes
 front_moved : (limit : ℕ) (w : List ℕ) (events : List Event) (piece rest : List ℕ) (at used : ℕ) (end : Option StreamEnd) → at ≤ length piece
     → Reached limit (w ++ take at piece) events (drop at piece ++ rest) used end → Reached limit w events (piece ++ rest) (at + used) end
 front_moved limit w events piece rest at used end within h =
@@ -76,7 +76,7 @@ drop_whole piece used all = none (drop used piece) (let len = length-drop used p
   none [] is = refl
   none (x ∷ xs) is = absurd (omega (arith, is))
 
--- the outcome of several calls is that of one call
+-- `Reached` holds for an outcome, if it holds for an equal one
 as_outcome : (limit : ℕ) (w : List ℕ) (events : List Event) (all : List ℕ) (outcome other : DecodeOutcome) → outcome ≡ other → Reached limit w (events ++ other.events) all other.used other.end
     → Reached limit w (events ++ outcome.events) all outcome.used outcome.end
 as_outcome limit w events all outcome other is h = subst (λ (o : DecodeOutcome). Reached limit w (events ++ o.events) all o.used o.end) (sym is) h
@@ -108,7 +108,7 @@ reached limit d (piece ∷ pieces) ((used, out.Fault fault) ∷ calls) outcome w
     as_outcome limit w events (piece ++ joined pieces) outcome (decoded [] (Some (Failed fault)) used) is
     (subst (λ (es : List Event). Reached limit w es (piece ++ joined pieces) used (Some (Failed fault))) (sym (append-nil events)) ended)
 
--- ---- what the bytes read as
+-- ---- the outcome determines the reading of the bytes
 
 abbrev reading_of : List ℕ → List Event → ℕ → Option StreamEnd → StreamReading Event
 reading_of w events used None = Goes events
@@ -124,7 +124,7 @@ reads_of limit w events used (Some (Failed fault)) (some, within, stops) memory 
   | inr none ↦ absurd (memory (ap (λ (f : Fault). Some (Failed f)) none.0))
 ]
 
--- equal prefixes have the same length
+-- if the first m and the first n bytes of w are equal, so are m and n
 same_take : (w : List ℕ) (m n : ℕ) → m ≤ length w → n ≤ length w → take m w ≡ take n w → m ≡ n
 same_take w m n first second same =
     let len = ap length same in

@@ -1,5 +1,5 @@
--- Bytes have at most one reading as plain RecordIO: the records are determined one by one, then the
--- tail.
+-- Bytes have at most one reading as plain RecordIO: the bytes determine the records one by one, and
+-- then the tail after them.
 use Rattle.std.proofs.Common.{◌≡◌, ◌≢◌, ℕ, ◌+◌, List, [], ◌∷◌, ◌++◌, length, refl, ap, ap₂, sym, ◌∙◌, subst, append_assoc, append-nil, arith, inl}
 use Rattle.mes_frame.proofs.OneReading.{one_reading, record_is_unique}
 use Rattle.mes_frame.specs.Record.{IsRecord, Begun, SizeShows}
@@ -13,7 +13,8 @@ use Rattle.mes_stream.specs.PlainReading.{IsExact, PlainReading, Goes, Stops, Re
 use Rattle.mes_stream.specs.declared.fault.Fault.{Fault}
 use Rattle.mes_stream.specs.declared.fault.Fault.TheVariants.{Frame, EndsInsideChunks, EndsInsideRecord, Text, Field, NoMemory, Read, ReadsSpent, BadEntry}
 
--- the bytes after the records: part of one, an invalid size line, or a record without a value
+-- the bytes after the records of the values: a part of a record, an invalid size line, or a record
+-- without a value
 data Tail : Type 0 where
   Front : Tail
   Bad : (x : List ℕ) (c : ℕ) (fault : FrameFault) → Tail
@@ -38,14 +39,14 @@ module _ {E : Type 0} (spells : List ℕ → E → Type 0) (breaks : List ℕ �
   IsTail t (Bad x c fault) = (rest : List ℕ) × (t ≡ x ++ c ∷ rest) × SizeShows x c limit fault
   IsTail t (Refused x c why) = (rest : List ℕ) × (r : List ℕ) × (t ≡ x ++ c ∷ rest) × IsRecord (x ++ c ∷ []) r limit × breaks r why × (why ≢ refusal.NoMemory)
 
-  -- the reading of the tail as a record
+  -- the reading of the tail t as one record
   tail_reading : (t : List ℕ) (k : Tail) → IsTail t k → (reading : RecordReading) × ReadsRecord limit t reading
   unfolding IsTail
   tail_reading t Front (r, begun) = (Begins r, begun)
   tail_reading t (Bad x c fault) (rest, is, shows) = (Broken x c fault, (rest, is, shows))
   tail_reading t (Refused x c why) (rest, r, is, whole, h, not) = (Whole (x ++ c ∷ []) r, (rest, is ∙ sym (append_assoc x (c ∷ []) rest), whole))
 
-  -- no record that begins the tail has a value
+  -- the tail t does not begin with a record that has a value
   stuck : (t f r s : List ℕ) (k : Tail) (value : E) → IsTail t k → IsRecord f r limit → t ≡ f ++ s → spells r value → ⊥
   unfolding IsTail
   stuck t f r s Front value (q, begun) is same says =
@@ -57,7 +58,7 @@ module _ {E : Type 0} (spells : List ℕ → E → Type 0) (breaks : List ℕ �
       let one : q ≡ r = cc in
       exact.apart r value why not says (subst (λ (y : List ℕ). breaks y why) one h)
 
-  -- a tail has only one kind
+  -- bytes t are a tail in at most one way
   one_tail : (t : List ℕ) (k l : Tail) → IsTail t k → IsTail t l → k ≡ l
   unfolding IsTail
   one_tail t Front Front h g = refl
@@ -90,7 +91,7 @@ module _ {E : Type 0} (spells : List ℕ → E → Type 0) (breaks : List ℕ �
       let reason : why ≡ other = exact.why r why other not nor (subst (λ (z : List ℕ). breaks z why) contents h) g in
       cc
 
-  -- the records before the tail are determined
+  -- the bytes of a stream determine the records before the tail, and the tail
   peel : (values others : List E) (whole other t u : List ℕ) (k l : Tail) → Records spells limit whole values → Records spells limit other others → IsTail t k → IsTail u l → whole ++ t ≡ other ++ u
       → (values ≡ others) × (whole ≡ other) × (t ≡ u)
   peel [] [] whole other t u k l none nor tail end same = (refl, none ∙ sym nor, rw (none, nor) at same)
@@ -106,7 +107,7 @@ module _ {E : Type 0} (spells : List ℕ → E → Type 0) (breaks : List ℕ �
       let head : v ≡ e = exact.value r v e says (subst (λ (y : List ℕ). spells y e) (sym one.1) reports) in
       (ap₂ (λ (y : E) (ys : List E). y ∷ ys) head on.0, spelt ∙ ap₂ (λ (y z : List ℕ). y ++ z) one.0 on.1 ∙ sym given, on.2)
 
-  -- the reading with these records and this tail
+  -- the reading of bytes that are the records `whole` and the tail
   reading_of : List ℕ → List E → Tail → PlainReading E
   reading_of whole values Front = Goes values
   reading_of whole values (Bad x c fault) = Stops (whole ++ x) c values (Frame fault)
@@ -183,7 +184,7 @@ module _ {E : Type 0} (spells : List ℕ → E → Type 0) (breaks : List ℕ �
       let tails = one_tail g.t f.tail g.tail (subst (λ (y : List ℕ). IsTail y f.tail) one.2 f.is_tail) g.is_tail in
       f.is ∙ ap (λ (vs : List E). reading_of f.whole vs f.tail) one.0 ∙ ap₂ (λ (y : List ℕ) (k : Tail). reading_of y g.values k) one.1 tails ∙ sym g.is
 
-  -- complete records are not followed by an unfinished one
+  -- bytes that are complete records do not end inside a record
   pub no_rest : (b : List ℕ) (values others : List E) → Records spells limit b values → EndsInside spells limit b others → ⊥
   unfolding IsTail
   no_rest b values others records s =

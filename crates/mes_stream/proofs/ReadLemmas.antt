@@ -1,4 +1,4 @@
--- The reads of a device, one by one, and their counts.
+-- Lemmas about the reads of a device, one by one: the bytes, the counts, and how the reads ended.
 use Rattle.std.proofs.Common.{◌≡◌, ℕ, ◌+◌, ◌<◌, ◌≤◌, Option, List, [], ◌++◌, length, take, ◌∙◌, ap, append-nil, arith, refl, subst, length-append, length-take-le}
 use Rattle.std.specs.Io.KnownBytes.{Consumes, Keeps, IsAtEnd}
 use Rattle.std.proofs.KnownBytes.{Consumes-nil, Consumes-trans, Consumes-kept}
@@ -12,7 +12,7 @@ use Rattle.mes_stream.specs.declared.limits.TheConstants.{MAX_READ}
 use Rattle.mes_stream.specs.declared.read_loop.ReadsEnd.{ReadsEnd}
 use Rattle.mes_stream.specs.declared.read_loop.ReadsEnd.TheVariants.{Stopped, AtEnd, Failed, Spent}
 
--- after some reads: `Goes` holds of the bytes w read, and no read failed
+-- after `reads` reads: `Goes` holds of the bytes w that were read, and no read failed
 pub record Reads (Goes : List ℕ → Type 0) (first now : Option (List ℕ)) (old new : Counts) (reads : ℕ) : Type 0 where
   pub w : List ℕ
   pub consumes : Consumes first now w
@@ -39,16 +39,16 @@ moved len count n some =
 ended_idle : (len n : ℕ) → 0 < len → up_if (nat_lt 0 len && (0 == 0)) n ≡ up n 1
 ended_idle len n full = let test : nat_lt 0 len ≡ true = grind (arith, nat_tests) in rw test refl
 
--- the counts after a read of `count` bytes
+-- the counts `new` of a device after a read of `count` bytes into a buffer of `len` bytes
 abbrev pub Counted : Counts → Counts → ℕ → ℕ → Type 0
 Counted old new len count =
     (new.calls ≡ up_if (nat_lt 0 len) old.calls) × (new.failures ≡ old.failures) × (new.idle ≡ up_if (nat_lt 0 len && (count == 0)) old.idle)
 
--- the counts after a failed read
+-- the counts `new` of a device after a failed read into a buffer of `len` bytes
 abbrev pub CountedFailure : Counts → Counts → ℕ → Type 0
 CountedFailure old new len = (new.calls ≡ up_if (nat_lt 0 len) old.calls) × (new.failures ≡ up old.failures 1) × (new.idle ≡ old.idle)
 
--- one more read is counted
+-- the count of calls after one more read
 one_more_call : (old new later : Counts) (reads most len : ℕ) (w : List ℕ) → ReadsMade reads old new w reads 0 0 → 0 < len → later.calls ≡ up_if (nat_lt 0 len) new.calls
     → later.calls ≡ up old.calls (reads + 1)
 one_more_call old new later reads most len w before full counted =

@@ -1,4 +1,4 @@
--- The reading of a stream, piece by piece and at its end.
+-- The reading of a stream, piece by piece and at the end of the input.
 use Rattle.std.proofs.Common.{◌≡◌, ℕ, ◌+◌, ◌-◌, ◌<◌, ◌≤◌, Option, List, [], ◌∷◌, ◌++◌, length, take, drop, sym, ◌∙◌, ap, append_assoc, append-nil, arith, length-append, length-take-le, take-append-drop, Result, Ok, Err, inl, inr, subst}
 use Rattle.std.proofs.lemmas.List.{take_more}
 use Rattle.std.specs.Prelude.{OnOk, IfErr, slice_index}
@@ -73,11 +73,11 @@ module _ {R E : Type 0} (holds : R → List ℕ → Type 0) (spells : List ℕ �
       (ahead : Ahead) (framing : Framing) (limit : ℕ) (v : List ℕ) (before : List E) → ReadingRepresentsAfter holds spells ahead d framing limit v before
       → ReadingTakesAfter holds spells breaks ahead new framing limit v before piece old now result
 
-  -- no piece appends nothing
+  -- before the first piece nothing is appended
   pub gathers_none : (d : Reading R) (start : List E) → Gathers holds spells d start d start []
   gathers_none d start = λ ahead framing limit v before represents. ([], sym (append-nil start), rw (append-nil, append-nil) represents)
 
-  -- one more piece appends its values
+  -- one more piece appends the values of the records that end in it
   pub gathers_more : {T : Type 0} (first d new : Reading R) (start old now : List E) (w piece : List ℕ) (result : Result T ReadingStop) → Gathers holds spells first start d old w → TakesAll d new piece old now result
       → OnOk result (Gathers holds spells first start new now (w ++ piece))
   gathers_more first d new start old now w piece (Ok done) h fed = λ ahead framing limit v before represents.
@@ -105,7 +105,7 @@ module _ {R E : Type 0} (holds : R → List ℕ → Type 0) (spells : List ℕ �
     none,
   )
 
-  -- how the reading ended, from how the reads ended
+  -- how the reading of the stream ended, from how the reads of the device ended
   pub read_through : (kept : R → ℕ) (first now : Reading R) (start to : List E) (framing : Framing) (limit reads : ℕ) (old new : Counts) (last : Option (List ℕ)) (w : List ℕ) (end : ReadsEnd ReadingStop) (answer : Result Report Stop)
       → ReadingRepresents holds spells first framing limit [] [] → EndsReads (Gathers holds spells first start now to) (GathersLast holds spells breaks kept first start now to) reads old new last w end → Means holds spells now end answer
       → (more : List E) × (to ≡ start ++ more) × EndsReading framing spells breaks limit reads old new last w more answer

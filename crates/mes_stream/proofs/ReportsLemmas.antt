@@ -1,4 +1,4 @@
--- The meaning of a step whose record has ended and has no decoded value yet.
+-- The meaning of a step at which a record ended, if the value of the record is not decoded yet.
 use Rattle.std.proofs.Common.{◌≡◌, ℕ, ◌<◌, ◌≤◌, List, ◌++◌, length, take, ap, refl, sym, subst}
 use Rattle.mes_frame.specs.ChunkState.{ChunkRepresents, remaining_of}
 use Rattle.mes_frame.specs.RecordState.{limit_of}
@@ -21,7 +21,7 @@ use Rattle.mes_stream.proofs.ChunkLemmas.{run_says}
 use Rattle.mes_stream.proofs.DecoderLemmas.{says_as_well}
 
 module _ {R E : Type 0} (holds : R → List ℕ → Type 0) (spells : List ℕ → E → Type 0) (breaks : List ℕ → RecordError → Type 0) (ahead : ℕ) (framing : Framing) where
-  -- a result holds for any split of the same bytes
+  -- the meaning of a result does not depend on where the same bytes are cut into w and a piece
   pub tells_as : (Represents : Body R → List ℕ → List E → Type 0) (body : Body R) (limit : ℕ) (w v run rest : List ℕ) (values : List E) (used most : ℕ) (s : Decoded (Unit {0}) Fault)
       → ((after : Body R) (answer : Decoded E Fault) → SaysIn framing (Represents after) spells breaks ahead limit w values run used answer → SaysIn framing (Represents after) spells breaks ahead limit v values rest most answer)
       → Reports holds spells breaks ahead framing Represents body limit w values run used s → Reports holds spells breaks ahead framing Represents body limit v values rest most s
@@ -30,7 +30,7 @@ module _ {R E : Type 0} (holds : R → List ℕ → Type 0) (spells : List ℕ �
   tells_as Represents body limit w v run rest values used most out.End each h = each body out.End h
   tells_as Represents body limit w v run rest values used most (out.Fault fault) each h = each body (out.Fault fault) h
 
-  -- a result holds for another reader with the same body
+  -- the meaning of a result is the same for another reader with the same body
   pub tells_of : (Represents Others : Body R → List ℕ → List E → Type 0) (body : Body R) (limit : ℕ) (w run : List ℕ) (values : List E) (used : ℕ) (s : Decoded (Unit {0}) Fault)
       → ((after : Body R) → after.records ≡ body.records → (v : List ℕ) (vs : List E) → Represents after v vs → Others after v vs)
       → Reports holds spells breaks ahead framing Represents body limit w values run used s → Reports holds spells breaks ahead framing Others body limit w values run used s
@@ -41,7 +41,7 @@ module _ {R E : Type 0} (holds : R → List ℕ → Type 0) (spells : List ℕ �
   tells_of Represents Others body limit w run values used (out.Fault fault) each h = h
 
 module _ {R E : Type 0} (holds : R → List ℕ → Type 0) (spells : List ℕ → E → Type 0) (breaks : List ℕ → RecordError → Type 0) (ahead : ℕ) where
-  -- the result for a run of data in a chunk
+  -- the result of a chunked body for a run of data in a chunk, from the result of its records
   pub run_tells : (d : ChunkedBody R) (chunks : ChunkState) (body : Body R) (w run : List ℕ) (values : List E) (used count : ℕ) (told : Decoded (Unit {0}) Fault) (s : ChunkedRepresents holds spells ahead d w values) → length run ≡ count → count ≤ remaining_of d.chunks
       → 0 < used → used ≤ count → ChunkRepresents chunks (w ++ take used run) (s.content ++ take used run)
       → Reports holds spells breaks ahead Plain (BodyRepresents holds spells ahead) body (limit_of body.records) s.content values run used told
@@ -62,7 +62,7 @@ module _ {R E : Type 0} (holds : R → List ℕ → Type 0) (spells : List ℕ �
   run_tells d chunks body w run values used count (out.Fault fault) s len room some within represents taken =
       run_says holds spells ahead breaks d (record { chunks = chunks; body = body }) w run values used count (out.Fault fault) s len room some within represents taken
 
-  -- the result of a body of plain RecordIO
+  -- the result of a reader of plain RecordIO, from the result of its records
   pub plain_tells : (body : Body R) (framing : Framing) (limit : ℕ) (w run : List ℕ) (values : List E) (used : ℕ) (told : Decoded (Unit {0}) Fault) → framing ≡ Plain → limit_of body.records ≡ limit
       → Reports holds spells breaks ahead Plain (BodyRepresents holds spells ahead) body (limit_of body.records) w values run used told
       → Reports holds spells breaks ahead framing (λ after. StreamRepresents holds spells ahead (reader.Plain after) framing limit) body limit w values run used told

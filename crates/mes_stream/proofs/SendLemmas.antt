@@ -1,4 +1,4 @@
--- Events encoded one by one, and the bytes written.
+-- Lemmas about sending events: the records of the events so far, and the bytes written.
 use Rattle.std.proofs.Common.{◌≡◌, ℕ, suc, ◌+◌, ◌^◌, ◌<◌, List, [], ◌∷◌, ◌++◌, Option, length, take, drop, get_or, ap, sym, ◌∙◌, subst, append-nil, arith, length-take-le, map, Bor}
 use Rattle.std.proofs.Math.Seq.{split_at}
 use Rattle.std.proofs.lemmas.Grind.{flat_map-append}
@@ -35,7 +35,7 @@ pub ref_at : (refs : List (Bor Event)) (i : ℕ) (ref : Bor Event) → i < lengt
 ref_at refs i ref inside here =
     ap (λ (event : Bor Event). event.now) here ∙ sym (get_or-map (λ (event : Bor Event). event.now) refs i ref ref.now inside)
 
--- the records of one more event
+-- the records of the first events and of one more event
 pub plain_of_more : (limit : ℕ) (events : List Event) (i : ℕ) (event : Event) (old new : List ℕ) → i < length events → event ≡ get_or events i event
     → IsPlainOf limit (take i events) old → new ≡ old ++ record_bytes (canonical_text event) → IsGood event limit
     → IsRecord (record_bytes (canonical_text event)) (canonical_text event) limit → Spells (canonical_text event) event → IsPlainOf limit (take (i + 1) events) new
@@ -54,7 +54,7 @@ plain_of_more limit events i event old new inside here plain is good framed spel
       read = subst R (sym is) (records_more HoldsData Spells 0 limit old (record_bytes text) text front event plain.read framed spelt);
     })
 
--- the event at this index is the first that cannot be encoded
+-- the event at index i is the first that cannot be encoded
 first_bad : (limit : ℕ) (events : List Event) (i : ℕ) (event : Event) (why : EncodeFaultKind) → i < length events → event ≡ get_or events i event
     → AllGood limit (take i events) → IsBad limit event why → IsFirstBad limit events i why
 first_bad limit events i event why inside here good bad = record {
@@ -67,7 +67,7 @@ first_bad limit events i event why inside here good bad = record {
   bad = bad;
 }
 
--- an event was refused
+-- the event at index i could not be encoded, and the events before it could
 pub unsent_at : (limit : ℕ) (events : List Event) (i : ℕ) (event : Event) (fault : EncodeFault) → i < length events → event ≡ get_or events i event
     → AllGood limit (take i events) → IsEncodeFault event limit fault → IsUnsent limit events (fault_at i fault)
 unsent_at limit events i event refused.TooDeep inside here good is = first_bad limit events i event TooDeep inside here good is
@@ -75,7 +75,7 @@ unsent_at limit events i event refused.TooLarge inside here good is = first_bad 
 unsent_at limit events i event refused.NoMemory inside here good is = tt
 
 module _ {W : Type 0} (written : W → Option (List ℕ)) (counts : W → Counts) (limit : ℕ) (events : List Event) where
-  -- chunks of the records are a stream of the events
+  -- the records of the events, cut into chunks, are a stream of the events
   pub stream_of : (most : ℕ) (body w : List ℕ) → most < 2 ^ 64 → IsPlainOf limit events body → IsFrames body most w → IsStreamOf limit most events w
   stream_of most body w small plain frames =
       let P : List ℕ → Type 0 = λ b. IsFrames b most w in
@@ -94,7 +94,7 @@ module _ {W : Type 0} (written : W → Option (List ℕ)) (counts : W → Counts
       let P : List ℕ → Type 0 = λ u. CallsFor (length u) (counts old) (counts new) in
       (w, stream_of most body w small plain frames, record { out = out; none_fails = none; calls = subst P (framing_is_unique body v w most same frames) calls })
 
-  -- the writer failed within the chunks
+  -- the writer failed before the last byte of the chunks
   pub stream_stops : (most : ℕ) (body : List ℕ) (old new : W) (fault : WriteFault) → most < 2 ^ 64 → IsPlainOf limit events body
       → ((w : List ℕ) × IsFrames body most w × WroteFront (written old) (written new) w fault.sent) → StopsWrite fault.why (counts old) (counts new)
       → ((w : List ℕ) × IsFrames body most w × CallsFor (length w) (counts old) (counts new))

@@ -1,4 +1,4 @@
--- The bytes of a size line, one by one.
+-- Lemmas about the bytes of a size line, consumed one by one.
 use Rattle.std.proofs.Common.{◌≡◌, ℕ, ◌+◌, ◌<◌, ◌≤◌, List, [], ◌∷◌, ◌++◌, length, take, drop, get_or, zero, suc, sym, ◌∙◌, ap, subst, append-nil, append_assoc, arith, ◌⊎◌, inl, inr}
 use Rattle.std.proofs.lemmas.Bool.Decides.{eqb_tells}
 use Rattle.std.proofs.lemmas.List.{take_more}
@@ -7,7 +7,7 @@ use Rattle.mes_frame.specs.Record.{Begun}
 use Rattle.mes_frame.specs.RecordState.{RecordStands, limit_of}
 use Rattle.mes_frame.specs.declared.record.RecordState.{RecordState}
 
--- `count` bytes of a run were consumed after x, and the record continues at each of them
+-- `count` bytes of `run` were consumed after x, and the record continues after each of these bytes
 abbrev pub PassesSize : RecordState → List ℕ → List ℕ → List ℕ → ℕ → Type 0
 PassesSize new x r run count = RecordStands new (x ++ take count run) r × ((n : ℕ) → n ≤ count → Begun (x ++ take n run) r (limit_of new))
 
@@ -36,7 +36,7 @@ size_next old new x r run count inside limit represents (before, begun) =
           ],
     )
 
--- the first byte of a size line in a run, and those after it
+-- `PassesSize` for a run of bytes, from its first byte and `PassesSize` for the rest
 pub size_line : (new : RecordState) (x r run : List ℕ) (count : ℕ) → 0 < length run → Begun x r (limit_of new)
     → PassesSize new (x ++ get_or run 0 0 ∷ []) r (drop 1 run) count
     → RecordStands new (x ++ take (1 + count) run) r × ((n : ℕ) → n < 1 + count → Begun (x ++ take n run) r (limit_of new))

@@ -54,14 +54,14 @@ start_stands = record {
 }
 
 module _ {E : Type 0} (spells : List ℕ → E → Type 0) (breaks : List ℕ → RecordError → Type 0) (decided : IsDecided spells breaks) (ahead limit : ℕ) where
-  -- one more byte after a prefix makes a longer prefix, or is an error
+  -- the byte c after b makes a longer prefix of a stream, or an error is detected at c
   Next : List ℕ → List E → ℕ → Type 0
   Next b values c = ((more : List E) × BodyLive spells limit (b ++ c ∷ []) more) ⊎ ((fault : Fault) × BodyShows spells breaks ahead limit b values c fault)
 
   none_begun : Begun [] [] limit
   none_begun = inl (record { digits = tt; few = omega arith }, refl)
 
-  -- the effect of a byte that ends a record
+  -- `Next` for a byte c that ends a record
   ends : (b : List ℕ) (values : List E) (c : ℕ) (r : List ℕ) (live : BodyLive spells limit b values) → IsRecord (live.x ++ c ∷ []) r limit → Next b values c
   unfolding Next
   ends b values c r live is = elim (decided r) [
@@ -83,7 +83,7 @@ module _ {E : Type 0} (spells : List ℕ → E → Type 0) (breaks : List ℕ �
     refused refusal.BadEntry known h = (BadEntry (number_after ahead values), (record { whole = live.whole; x = live.x; spelt = live.spelt; records = live.records; is = (r, is, h) }, refl))
     refused refusal.NoMemory known h = absurd (known refl)
 
-  -- the reading of the unfinished record with one more byte
+  -- `Next` from the reading of the unfinished record with the byte c
   reported : (b : List ℕ) (values : List E) (c : ℕ) (live : BodyLive spells limit b values) (reading : RecordReading) → ReadsRecord limit (live.x ++ c ∷ []) reading → Next b values c
   unfolding Next
   reported b values c live (record_reading.Begins r) begun = inl (
@@ -127,7 +127,7 @@ module _ {E : Type 0} (spells : List ℕ → E → Type 0) (breaks : List ℕ �
   start_live : BodyLive spells limit [] []
   start_live = record { whole = []; x = []; spelt = refl; records = refl; is = ([], none_begun) }
 
-  -- ---- plain RecordIO
+  -- ---- any bytes have a reading as plain RecordIO
 
   ReadPlain : List ℕ → Type 0
   ReadPlain w = (reading : PlainReading E) × ReadsPlain spells breaks ahead limit w reading
@@ -144,12 +144,12 @@ module _ {E : Type 0} (spells : List ℕ → E → Type 0) (breaks : List ℕ �
   unfolding ReadPlain
   some_plain w = plain_on w [] [] start_live
 
-  -- ---- chunked streams
+  -- ---- any bytes have a reading as a chunked stream
 
   ReadStream : List ℕ → Type 0
   ReadStream w = (reading : StreamReading E) × ReadsStream spells breaks ahead limit w reading
 
-  -- a body that has ended ends between two records or inside one
+  -- a prefix of a stream ends after complete records or inside a record
   ended : (b : List ℕ) (values : List E) → BodyLive spells limit b values → Records spells limit b values ⊎ EndsInside spells limit b values
   ended b values live = by live.x live.spelt live.is where
     by : (x : List ℕ) → b ≡ live.whole ++ x → (r : List ℕ) × Begun x r limit → Records spells limit b values ⊎ EndsInside spells limit b values

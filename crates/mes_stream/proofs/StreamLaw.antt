@@ -37,7 +37,8 @@ as_long (a ∷ u) (b ∷ v) rest more c d same len =
     let on : u ≡ v = as_long u v rest more c d tail (omega arith) in
     cc
 
--- a prefix that ends with data is not shorter than one with the same data
+-- of two prefixes of the same bytes with the same data so far, u before a byte of data c is not
+-- shorter than v
 not_shorter : (u v rest more body : List ℕ) (c d : ℕ) → u ++ c ∷ rest ≡ v ++ d ∷ more → IsOpen (u ++ c ∷ []) (body ++ c ∷ []) → IsOpen v body → length u < length v → ⊥
 not_shorter u v rest more body c d same begun too less =
     let found = shorter u v rest more c d same less in
@@ -56,7 +57,7 @@ one_front u v rest more body c same first second begun too = elim (cases_lt (len
   ]
 ]
 
--- the records of a chunked body that has ended: all complete, or one unfinished
+-- the records of a chunked body that has ended: all complete, or the last one unfinished
 data Mark : Type 0 where
   Clean : Mark
   Inside : (front : List ℕ) (c : ℕ) → Mark
@@ -74,7 +75,7 @@ module _ {E : Type 0} (spells : List ℕ → E → Type 0) (breaks : List ℕ �
   IsMark (Whole whole body) values (Inside front c) = (whole ≡ front ++ c ∷ []) × EndsInside spells limit body values
   IsMark (Broken front c body fault) values mark = mark ≡ Clean
 
-  -- the framing determines the reading
+  -- the framing of w determines the reading, and no error is detected in the data
   record Outer (w : List ℕ) (reading : StreamReading E) : Type 0 where
     chunks : ChunkReading
     values : List E
@@ -84,7 +85,7 @@ module _ {E : Type 0} (spells : List ℕ → E → Type 0) (breaks : List ℕ �
     is_mark : IsMark chunks values mark
     is : reading ≡ outer_of chunks values mark
 
-  -- a byte of a record determines the reading
+  -- an error at the byte c of the data determines the reading of w
   record Inner (w : List ℕ) (reading : StreamReading E) : Type 0 where
     front : List ℕ
     c : ℕ
@@ -118,7 +119,7 @@ module _ {E : Type 0} (spells : List ℕ → E → Type 0) (breaks : List ℕ �
       (subst (λ (vs : List E). IsMark g.chunks vs f.mark) values (subst (λ (k : ChunkReading). IsMark k f.values f.mark) chunks f.is_mark)) g.is_mark in
       f.is ∙ ap (λ (k : ChunkReading). outer_of k f.values f.mark) chunks ∙ ap₂ (λ (vs : List E) (m : Mark). outer_of g.chunks vs m) values mark ∙ sym g.is
 
-  -- the data of the whole input begin with those before the error
+  -- the data of the whole input w begin with the data up to the byte of the error
   content_on : (w : List ℕ) (reading : StreamReading E) (f : Inner w reading) (k : ChunkReading) → ReadsChunks w k → (more : List ℕ) × (content_of k ≡ f.body ++ f.c ∷ more)
   content_on w reading f k reads =
       let spelt : w ≡ (f.front ++ f.c ∷ []) ++ f.rest = f.spelt ∙ sym (append_assoc f.front (f.c ∷ []) f.rest) in
@@ -217,7 +218,7 @@ module _ {E : Type 0} (spells : List ℕ → E → Type 0) (breaks : List ℕ �
 
   -- ---- two chunkings of one body
 
-  -- both whole, or both prefixes
+  -- both inputs are whole bodies or both are prefixes of bodies, with the same data
   IsKin : ChunkReading → ChunkReading → Type 0
   IsKin (Begins body) (Begins other) = body ≡ other
   IsKin (Begins body) (Whole front other) = ⊥
@@ -251,7 +252,7 @@ module _ {E : Type 0} (spells : List ℕ → E → Type 0) (breaks : List ℕ �
   outer_alike (Whole front body) (Broken following c other fault) values others m n is same h g = absurd is
   outer_alike (Broken front c body fault) l values others m n is same h g = absurd is
 
-  -- the reading of the data, from what determines it
+  -- the reading of the data as plain RecordIO, from what determines the reading of w
   plain_found : (w : List ℕ) (reading : StreamReading E) (k : ChunkReading) → ReadsChunks w k → Found w reading → PlainReading E
   unfolding Found
   plain_found w reading k reads (inl f) = plain.Goes f.values
@@ -301,14 +302,14 @@ module _ {E : Type 0} (spells : List ℕ → E → Type 0) (breaks : List ℕ �
   unfolding IsKin
   alike_front w v body reading other first second reads too = alike w v reading other (Begins body) (Begins body) first second refl reads too
 
--- another chunking of the same body has the same values
+-- if w and v are chunkings of the same body, v has the values of w
 pub same_chunking : {E : Type 0} (spells : List ℕ → E → Type 0) (limit : ℕ) (w v body : List ℕ) (values : List E) → IsChunked w body → IsChunked v body → IsStream spells limit w values → IsStream spells limit v values
 same_chunking spells limit w v body values first second (other, whole, records) =
     let both : Whole w other ≡ Whole w body = one_reading w (Whole w other) (Whole w body) ([], sym (append-nil w), whole) ([], sym (append-nil w), first) in
     let same : other ≡ body = cc in
     (body, second, rw same at records)
 
--- another chunking of the same prefix of a body has the same values
+-- if w and v are chunkings of the same prefix of a body, v has the values of w
 pub same_front : {E : Type 0} (spells : List ℕ → E → Type 0) (limit : ℕ) (w v body : List ℕ) (values : List E) → IsOpen w body → IsOpen v body → Live spells limit w values → Live spells limit v values
 same_front spells limit w v body values first second (other, begun, live) =
     let both : Begins other ≡ Begins body = one_reading w (Begins other) (Begins body) begun first in

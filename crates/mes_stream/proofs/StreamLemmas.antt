@@ -1,4 +1,4 @@
--- The state of a reader of either framing, over the prefixes of a piece.
+-- Lemmas about the bytes that a reader of either framing has consumed.
 use Rattle.std.proofs.Common.{◌≡◌, ℕ, List, refl, sym, subst}
 use Rattle.mes_stream.specs.Stream.{BodyLive}
 use Rattle.mes_stream.specs.Chunked.{Live}
@@ -16,7 +16,7 @@ same_body (reader.Plain body) = refl
 same_body (reader.Chunked chunked) = refl
 
 module _ {R E : Type 0} (holds : R → List ℕ → Type 0) (spells : List ℕ → E → Type 0) (ahead : ℕ) where
-  -- consumed bytes are a prefix of a stream
+  -- the bytes that a reader has consumed are a prefix of a stream
   pub goes_behind : (d : StreamReader R) (framing : Framing) (limit : ℕ) (w : List ℕ) (values : List E) → StreamRepresents holds spells ahead d framing limit w values → GoesIn framing spells limit w values
   goes_behind (reader.Plain body) framing limit w values (is, represents, same) =
       let live : GoesIn Plain spells limit w values = subst (λ (n : ℕ). BodyLive spells n w values) same (live_of holds spells ahead body w values represents) in
@@ -25,7 +25,7 @@ module _ {R E : Type 0} (holds : R → List ℕ → Type 0) (spells : List ℕ �
       let live : GoesIn Chunked spells limit w values = subst (λ (n : ℕ). Live spells n w values) same (chunked_live holds spells ahead chunked w values represents) in
       subst (λ (f : Framing). GoesIn f spells limit w values) (sym is) live
 
--- consumed bytes are a prefix of a stream, with nothing before it
+-- like `goes_behind`, for a stream that no record precedes
 pub goes_of : {R E : Type 0} (holds : R → List ℕ → Type 0) (spells : List ℕ → E → Type 0) (d : StreamReader R) (framing : Framing) (limit : ℕ) (w : List ℕ) (values : List E)
     → StreamRepresents holds spells 0 d framing limit w values → GoesIn framing spells limit w values
 goes_of holds spells d framing limit w values s = goes_behind holds spells 0 d framing limit w values s

@@ -68,7 +68,7 @@ module _ {E : Type 0} (spells : List ℕ → E → Type 0) (breaks wide : List �
   chunked_shows ahead limit w values c ReadsSpent h = h
   chunked_shows ahead limit w values c (BadEntry at) (body, before, following, h) = (body, before, following, body_shows ahead limit body values c (BadEntry at) h)
 
-  -- a byte at which an error is detected
+  -- an error detected at the byte c with `breaks` is one with `wide`
   pub stops_wider : (framing : Framing) (ahead limit : ℕ) (w : List ℕ) (values : List E) (c : ℕ) (fault : Fault) → ByteStopsIn framing spells breaks ahead limit w values c fault
       → ByteStopsIn framing spells wide ahead limit w values c fault
   stops_wider Plain ahead limit w values c fault (inl h) = inl (body_shows ahead limit w values c fault h)
@@ -81,19 +81,19 @@ module _ {E : Type 0} (spells : List ℕ → E → Type 0) (breaks wide : List �
   within_wider framing ahead limit w values fault n h =
       record { front = h.front; byte = h.byte; rest = h.rest; is = h.is; used = h.used; live = h.live; stops = stops_wider framing ahead limit h.front values h.byte fault h.stops }
 
-  -- the effect of a byte of the last piece
+  -- the end or error at a byte of the last piece with `breaks` is one with `wide`
   pub byte_ends_wider : (framing : Framing) (ahead : Ahead) (limit : ℕ) (w : List ℕ) (values : List E) (outcome : Result Report Stop) → ByteEndsAfter framing spells breaks ahead limit w values outcome
       → ByteEndsAfter framing spells wide ahead limit w values outcome
   byte_ends_wider framing ahead limit w values (Ok report) h = h
   byte_ends_wider framing ahead limit w values (Err stop) h = record { n = h.n; count = h.count; stops = within_wider framing ahead.records limit w values stop.fault h.n h.stops; last = h.last }
 
-  -- how a reading ended
+  -- the end of a reading with `breaks` is one with `wide`
   pub reading_wider : (framing : Framing) (limit reads : ℕ) (old new : Counts) (last : Option (List ℕ)) (w : List ℕ) (values : List E) (outcome : Result Report Stop)
       → EndsReading framing spells breaks limit reads old new last w values outcome → EndsReading framing spells wide limit reads old new last w values outcome
   reading_wider framing limit reads old new last w values outcome (inl (h, made)) = inl (byte_ends_wider framing nothing_ahead limit w values outcome h, made)
   reading_wider framing limit reads old new last w values outcome (inr h) = inr h
 
-  -- the result for a piece
+  -- the result for a piece with `breaks` is one with `wide`
   pub takes_wider : {R T : Type 0} (holds : R → List ℕ → Type 0) (ahead : Ahead) (new : Reading R) (framing : Framing) (limit : ℕ) (w : List ℕ) (values : List E) (piece : List ℕ) (old now : List E) (result : Result T ReadingStop)
       → ReadingTakesAfter holds spells breaks ahead new framing limit w values piece old now result → ReadingTakesAfter holds spells wide ahead new framing limit w values piece old now result
   takes_wider holds ahead new framing limit w values piece old now (Ok done) h = h

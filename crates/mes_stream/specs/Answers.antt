@@ -12,7 +12,7 @@ use Rattle.mes_stream.specs.declared.fault.Stop.{Stop}
 use Rattle.mes_stream.specs.declared.stream_reader.Framing.{Framing}
 use Rattle.mes_stream.specs.declared.stream_reader.Framing.TheVariants.{Plain, Chunked}
 
--- a device with the bytes w, read at most `reads` times, gave these events and this result
+-- reading a device with the bytes w, at most `reads` times, gave the events and the outcome
 pub record AnswersIn (framing : Framing) (limit : ℕ) (w : List ℕ) (events : List Event) (outcome : Result Report Stop) : Type 0 where
   pub reads : ℕ
   pub old : Counts
@@ -34,7 +34,7 @@ abbrev pub IsDecidedByBytes : Result Report Stop → Type 0
 IsDecidedByBytes (Ok report) = Unit {0}
 IsDecidedByBytes (Err stop) = (stop.fault ≢ NoMemory) × (stop.fault ≢ Read) × (stop.fault ≢ ReadsSpent)
 
--- both results are the end of the stream, or both are the same error
+-- both outcomes are the end of the stream, or both are the same error
 abbrev pub EndsAlike : Result Report Stop → Result Report Stop → Type 0
 EndsAlike (Ok report) (Ok other) = Unit {0}
 EndsAlike (Ok report) (Err stop) = ⊥
@@ -46,7 +46,9 @@ abbrev pub bytes_after : Report → Option (List ℕ) → List ℕ
 bytes_after report None = report.rest.items
 bytes_after report (Some left) = report.rest.items ++ left
 
--- both ended after the same bytes, with the same bytes after the end; or both have the same error
+-- Both streams ended after the same number of bytes, with the same bytes after the end; or both
+-- stopped with the same error after the same number of bytes. `left` and `more` are the bytes left
+-- in the devices.
 abbrev pub IsSameOutcome : Option (List ℕ) → Option (List ℕ) → Result Report Stop → Result Report Stop → Type 0
 IsSameOutcome left more (Ok report) (Ok other) = (report.used ≡ other.used) × (bytes_after report left ≡ bytes_after other more)
 IsSameOutcome left more (Ok report) (Err stop) = ⊥

@@ -8,11 +8,12 @@ use Rattle.mes_stream.specs.Stream.{Records, BodyLive, EndsInside, EndsRecord, H
 use Rattle.mes_stream.specs.declared.fault.Fault.{Fault}
 use Rattle.mes_stream.specs.declared.fault.Fault.TheVariants.{Frame, EndsInsideChunks, EndsInsideRecord, Text, Field, NoMemory, Read, ReadsSpent, BadEntry}
 
--- w is a whole chunked body, and its data are records of the values
+-- w is a whole chunked body, and the data of w are records of the values
 abbrev pub IsStream : {E : Type 0} → (List ℕ → E → Type 0) → ℕ → List ℕ → List E → Type 0
 IsStream spells limit w values = (body : List ℕ) × IsChunked w body × Records spells limit body values
 
--- w is a prefix of a chunked body; its data are records of the values, and perhaps part of one
+-- w is a prefix of a chunked body; the data of w are records of the values, and perhaps a part of
+-- one more record
 abbrev pub Live : {E : Type 0} → (List ℕ → E → Type 0) → ℕ → List ℕ → List E → Type 0
 Live spells limit w values = (body : List ℕ) × IsOpen w body × BodyLive spells limit body values
 
@@ -24,7 +25,8 @@ AtData Is w values c = (body : List ℕ) × IsOpen w body × IsOpen (w ++ c ∷ 
 abbrev pub EndsWith : {E : Type 0} → (List ℕ → E → Type 0) → ℕ → List ℕ → List E → ℕ → E → Type 0
 EndsWith spells limit w values c value = AtData (λ body vs. EndsRecord spells limit body vs c (HasValue spells value)) w values c
 
--- an error is detected at the byte c after w: in the framing, in a record, or an early end
+-- The error is detected at the byte c after w: the framing or a record is invalid, or the body ends
+-- inside a record.
 abbrev pub ChunkedShows : {E : Type 0} → (List ℕ → E → Type 0) → (List ℕ → RecordError → Type 0) → ℕ → ℕ → List ℕ → List E → ℕ → Fault → Type 0
 ChunkedShows spells breaks ahead limit w values c (Frame fault) =
     ((body : List ℕ) × ChunkShows w body c fault × BodyLive spells limit body values)
@@ -42,7 +44,7 @@ ChunkedShows spells breaks ahead limit w values c ReadsSpent = ⊥
 ChunkedShows spells breaks ahead limit w values c (BadEntry at_record) =
     AtData (λ body vs. BodyShows spells breaks ahead limit body vs c (BadEntry at_record)) w values c
 
--- an error is detected at the byte c, or an allocation fails there, as `breaks` permits
+-- the error is detected at the byte c after w, or an allocation fails there, as `breaks` permits
 abbrev pub ChunkedStops : {E : Type 0} → (List ℕ → E → Type 0) → (List ℕ → RecordError → Type 0) → ℕ → ℕ → List ℕ → List E → ℕ → Fault → Type 0
 ChunkedStops spells breaks ahead limit w values c fault =
     ChunkedShows spells breaks ahead limit w values c fault ⊎ ((fault ≡ NoMemory) × AtData (λ body vs. RunsOut spells breaks limit body vs c) w values c)

@@ -20,7 +20,7 @@ abbrev pub end_at : {R : Type 0} → State R → Option StreamEnd
 end_at (state.Going stream) = None
 end_at (state.Ended end) = Some end
 
--- how the stream ended, if it did
+-- how the stream of the decoder ended, if it has ended
 abbrev pub end_of : {R : Type 0} → RecordDecoder R → Option StreamEnd
 end_of d = end_at d.state
 
@@ -28,30 +28,30 @@ abbrev pub DecoderStateRepresents : {R E : Type 0} → (R → List ℕ → Type 
 DecoderStateRepresents holds spells (state.Going stream) limit w values = StreamRepresents holds spells 0 stream Chunked limit w values
 DecoderStateRepresents holds spells (state.Ended end) limit w values = ⊥
 
--- The decoder has consumed w, a prefix of a stream with the values. False after the end or an
--- error.
+-- The decoder has consumed w, a prefix of a stream with the values. This is false after the end or
+-- an error.
 abbrev pub DecoderRepresents : {R E : Type 0} → (R → List ℕ → Type 0) → (List ℕ → E → Type 0) → RecordDecoder R → ℕ → List ℕ → List E → Type 0
 DecoderRepresents holds spells d limit w values = DecoderStateRepresents holds spells d.state limit w values
 
--- the result of every call after the end or the error
+-- the result of every call of `next` after the end or the error
 abbrev pub answer_of : {E : Type 0} → StreamEnd → Decoded E Fault
 answer_of Closed = out.End
 answer_of (Failed fault) = out.Fault fault
 
--- the result of `finish`
+-- the result of `finish`, from how the stream ended
 abbrev pub finish_of : Option StreamEnd → Result (Unit {0}) Fault
 finish_of None = Err EndsInsideChunks
 finish_of (Some Closed) = Ok tt
 finish_of (Some (Failed fault)) = Err fault
 
--- the end that the decoder remembers after a result
+-- the decoder remembers `end` after it returned the result
 abbrev pub EndsBy : {E : Type 0} → Option StreamEnd → Decoded E Fault → Type 0
 EndsBy end out.More = end ≡ None
 EndsBy end (out.Event value) = end ≡ None
 EndsBy end out.End = end ≡ Some Closed
 EndsBy end (out.Fault fault) = end ≡ Some (Failed fault)
 
--- at most n bytes of the data of the incomplete record are buffered
+-- n is at most the bound that `room` gives for the data of the incomplete record at the end of b
 abbrev pub HoldsInBody : {E : Type 0} → (List ℕ → E → Type 0) → (List ℕ → ℕ) → ℕ → List ℕ → List E → ℕ → Type 0
 HoldsInBody spells room limit b values n = Following spells limit (λ x. (r : List ℕ) × Begun x r limit × (n ≤ room r)) b values
 

@@ -11,18 +11,20 @@ use Rattle.mes_stream.specs.declared.record_error.RecordError.{RecordError}
 use Rattle.mes_stream.specs.declared.stream_reader.Framing.TheVariants.{Chunked}
 use Rattle.mes_stream.specs.declared.step.Decoded.{Decoded}
 
--- the reader has consumed w, whose data are records of the values and perhaps part of one more
+-- The reader has consumed w. The data of w are records of the values, and perhaps a part of one
+-- more record.
 pub record ChunkedRepresents {R E : Type 0} (holds : R → List ℕ → Type 0) (spells : List ℕ → E → Type 0) (ahead : ℕ) (d : ChunkedBody R) (w : List ℕ) (values : List E) : Type 0 where
   pub content : List ℕ
   pub chunks : ChunkRepresents d.chunks w content
   pub body : BodyRepresents holds spells ahead d.body content values
 
--- the byte at that index is data of the chunked body; run is the data of the piece before it
+-- the byte at the index `at` of the piece is data; `run` is the data of the piece before that byte
 pub record IsDataAt (w body piece run : List ℕ) (at : ℕ) : Type 0 where
   pub front : IsOpen (w ++ take at piece) (body ++ run)
   pub next : IsOpen ((w ++ take at piece) ++ slice_index piece at ∷ []) ((body ++ run) ++ slice_index piece at ∷ [])
 
--- `used` bytes of a piece were consumed after w; their data is `run`, and `places` their indices
+-- `used` bytes of the piece were consumed after w; `run` is the data in these bytes, and `places`
+-- has the index in the piece of each byte of `run`
 pub record Gathers (new : ChunkState) (w body piece : List ℕ) (used : ℕ) (run places : List ℕ) : Type 0 where
   pub represents : ChunkRepresents new (w ++ take used piece) (body ++ run)
   pub fronts : (n : ℕ) → n ≤ used → (d : List ℕ) × (length d ≤ length run) × IsOpen (w ++ take n piece) (body ++ d)

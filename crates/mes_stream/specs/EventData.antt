@@ -4,11 +4,11 @@ use Rattle.mes_json.specs.Lexer.{HasLexed, IsOutOfMemory, held}
 use Rattle.mes_stream.specs.Held.{fixed}
 use Rattle.mes_stream.specs.declared.event_reader.EventReader.{EventReader}
 
--- these bytes were consumed, and no allocation failed
+-- the reader has consumed the bytes r of a record's data, and no allocation failed
 pub record HoldsData (reader : EventReader) (r : List ℕ) : Type 0 where
   pub lexed : HasLexed reader.lexer r
   pub memory : IsOutOfMemory reader.lexer → ⊥
 
--- the number of buffered bytes of strings and numbers: the sum over all fields
+-- the number of buffered bytes of strings and numbers: the sum over all fields of the reader
 abbrev pub kept_data : EventReader → ℕ
 kept_data reader = let record { alloc = alloc; lexer = lexer } = reader in fixed alloc + held lexer

@@ -11,17 +11,17 @@ use Rattle.mes_stream.specs.declared.step.Decoded.TheVariants as out
 use Rattle.mes_stream.specs.declared.stream_reader.Framing.{Framing}
 use Rattle.mes_stream.specs.declared.stream_reader.Framing.TheVariants.{Plain, Chunked}
 
--- w is a prefix of a stream with these values so far, and no byte of it ends the stream
+-- w is a prefix of a stream with the values so far, and no byte of w ends the stream
 abbrev pub GoesIn : {E : Type 0} → Framing → (List ℕ → E → Type 0) → ℕ → List ℕ → List E → Type 0
 GoesIn Plain spells limit w values = BodyLive spells limit w values
 GoesIn Chunked spells limit w values = Live spells limit w values
 
--- w is a prefix of a stream with these values, and no record is incomplete
+-- w is a prefix of a stream with the values, and ends after a complete record or before the first
 abbrev pub WholeIn : {E : Type 0} → Framing → (List ℕ → E → Type 0) → ℕ → List ℕ → List E → Type 0
 WholeIn Plain spells limit w values = Records spells limit w values
 WholeIn Chunked spells limit w values = (body : List ℕ) × IsOpen w body × Records spells limit body values
 
--- the last byte of w ends a stream of the values; plain RecordIO has no such byte
+-- the last byte of w ends a stream of the values; no byte ends a stream of plain RecordIO
 abbrev pub EndsIn : {E : Type 0} → Framing → (List ℕ → E → Type 0) → ℕ → List ℕ → List E → Type 0
 EndsIn Plain spells limit w values = ⊥
 EndsIn Chunked spells limit w values = IsStream spells limit w values
@@ -31,12 +31,12 @@ abbrev pub EndsRecordIn : {E : Type 0} → Framing → (List ℕ → E → Type 
 EndsRecordIn Plain spells limit w values c value = EndsRecord spells limit w values c (HasValue spells value)
 EndsRecordIn Chunked spells limit w values c value = EndsWith spells limit w values c value
 
--- an error is detected at the byte c after w, or an allocation fails there
+-- the error is detected at the byte c after w, or an allocation fails there
 abbrev pub ByteStopsIn : {E : Type 0} → Framing → (List ℕ → E → Type 0) → (List ℕ → RecordError → Type 0) → ℕ → ℕ → List ℕ → List E → ℕ → Fault → Type 0
 ByteStopsIn Plain spells breaks ahead limit w values c fault = BodyStops spells breaks ahead limit w values c fault
 ByteStopsIn Chunked spells breaks ahead limit w values c fault = ChunkedStops spells breaks ahead limit w values c fault
 
--- the meaning of a step that used `used` bytes after w, for each result
+-- the meaning of each result of a step that used `used` bytes of the piece after w
 abbrev pub SaysIn : {E : Type 0} → Framing → (List ℕ → List E → Type 0) → (List ℕ → E → Type 0) → (List ℕ → RecordError → Type 0) → ℕ → ℕ → List ℕ → List E → List ℕ → ℕ → Decoded E Fault → Type 0
 SaysIn framing Represents spells breaks ahead limit w values piece used out.More = Represents (w ++ take used piece) values
 SaysIn framing Represents spells breaks ahead limit w values piece used (out.Event value) =
@@ -46,7 +46,7 @@ SaysIn framing Represents spells breaks ahead limit w values piece used out.End 
 SaysIn framing Represents spells breaks ahead limit w values piece used (out.Fault fault) =
     ByteStopsIn framing spells breaks ahead limit (w ++ take (used - 1) piece) values (slice_index piece (used - 1)) fault
 
--- before the last byte used no record ends, and there is no error
+-- no record ends, and no error is detected, before the last of the `used` bytes
 abbrev pub GoesBefore : {E : Type 0} → Framing → (List ℕ → E → Type 0) → ℕ → List ℕ → List E → List ℕ → ℕ → Type 0
 GoesBefore framing spells limit w values piece used = (n : ℕ) → n < used → GoesIn framing spells limit (w ++ take n piece) values
 
@@ -57,7 +57,7 @@ InputEnds Plain spells limit w values (Err fault) = EndsInside spells limit w va
 InputEnds Chunked spells limit w values (Ok done) = ⊥
 InputEnds Chunked spells limit w values (Err fault) = Live spells limit w values × (fault ≡ EndsInsideChunks)
 
--- the error is detected at the last of the first n bytes of w
+-- the error `fault` is detected at the n-th byte of w, after records of the values
 pub record StopsWithin {E : Type 0} (framing : Framing) (spells : List ℕ → E → Type 0) (breaks : List ℕ → RecordError → Type 0) (ahead limit : ℕ) (w : List ℕ) (values : List E) (fault : Fault) (n : ℕ) : Type 0 where
   pub front : List ℕ
   pub byte : ℕ

@@ -14,7 +14,7 @@ use Rattle.mes_stream.specs.declared.stream_reader.StreamReader.TheVariants as r
 abbrev pub fixed : {A : Type 0} → A → ℕ
 fixed field = 0
 
--- the buffered bytes of each type, if the reader of records buffers as many as `kept` says
+-- the buffered bytes of a value of each type; `kept` gives those of the reader of records
 abbrev pub held_by_body : {R : Type 0} → (R → ℕ) → Body R → ℕ
 held_by_body kept d = let record { records = records; reader = inner; done = done } = d in fixed records + kept inner + fixed done
 

@@ -28,13 +28,13 @@ fault_title Read = codes "F14 Read"
 fault_title ReadsSpent = codes "F15 ReadsSpent"
 fault_title (BadEntry at_record) = codes "F16 BadEntry"
 
--- the reason for which bytes are not JSON
+-- the printed reason for which bytes are not JSON
 abbrev pub text_fault_kind_name : TextFaultKind → List ℕ
 text_fault_kind_name End = codes "End"
 text_fault_kind_name Depth = codes "Depth"
 text_fault_kind_name Byte = codes "Byte"
 
--- the words for the record, the place in it and the reason
+-- the words for the number of the record, the place in the record and the reason
 abbrev pub details : Fault → List (List ℕ)
 details (Frame f) = []
 details EndsInsideChunks = []

@@ -1,4 +1,4 @@
--- The error in a compact error.
+-- The error that a compact error represents.
 use Rattle.mes_stream.specs.declared.fault.Fault.{Fault}
 use Rattle.mes_stream.specs.declared.fault.Fault.TheVariants as fault
 use Rattle.mes_stream.specs.declared.packed_fault.Kind.{Kind}

@@ -15,7 +15,7 @@ use Rattle.mes_stream.specs.declared.fault.Fault.TheVariants.{NoMemory}
 use Rattle.mes_stream.specs.declared.step.Decoded.{Decoded}
 use Rattle.mes_stream.specs.declared.step.Decoded.TheVariants as out
 
--- a call of `next` that used `used` bytes and returned the result, as its contract states
+-- `next` was called with the piece, used `used` bytes and returned `answer`, as its contract states
 pub record IsNext (old new : RecordDecoder EventReader) (piece : List ℕ) (used : ℕ) (answer : Decoded Event Fault) : Type 0 where
   pub says : (limit : ℕ) (w : List ℕ) (events : List Event) → DecoderRepresents HoldsData Spells old limit w events
       → Says (DecoderRepresents HoldsData Spells new limit) Spells IsEventRefusal limit w events piece used answer
@@ -23,7 +23,7 @@ pub record IsNext (old new : RecordDecoder EventReader) (piece : List ℕ) (used
   pub some : (limit : ℕ) (w : List ℕ) (events : List Event) → DecoderRepresents HoldsData Spells old limit w events → answer ≢ out.More → 0 < used
   pub within : used ≤ length piece
 
--- the events returned, the end or the error, if any, and the number of bytes used
+-- the outcome of several calls: the events, the end or the error, if any, and the bytes used
 pub record DecodeOutcome : Type 0 where
   pub events : List Event
   pub end : Option StreamEnd
@@ -32,12 +32,12 @@ pub record DecodeOutcome : Type 0 where
 abbrev pub decoded : List Event → Option StreamEnd → ℕ → DecodeOutcome
 decoded events end used = record { events = events; end = end; used = used }
 
--- the outcome of one more call before the others
+-- the outcome of one call and the calls after it, from the outcome of those after it
 abbrev pub after_call : ℕ → List Event → DecodeOutcome → DecodeOutcome
 after_call used events rest = decoded (events ++ rest.events) rest.end (used + rest.used)
 
--- The decoder received the pieces in order. Each call had a piece, or the bytes of it that the call
--- before did not use. After the end or an error no more calls were made.
+-- The decoder received the pieces in order. Each call had a whole piece, or the bytes of a piece
+-- that the previous call did not use. After the end or an error no more calls were made.
 abbrev pub Decodes : RecordDecoder EventReader → List (List ℕ) → List (ℕ × Decoded Event Fault) → DecodeOutcome → Type 0
 Decodes d [] [] outcome = outcome ≡ decoded [] None 0
 Decodes d [] (call ∷ calls) outcome = ⊥

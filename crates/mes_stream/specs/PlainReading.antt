@@ -16,12 +16,12 @@ abbrev pub IsDecided : {E : Type 0} → (List ℕ → E → Type 0) → (List �
 IsDecided {E} spells breaks = (r : List ℕ) → ((value : E) × spells r value) ⊎ ((why : RecordError) × (why ≢ refusal.NoMemory) × breaks r why)
 
 pub data PlainReading (E : Type 0) : Type 0 where
-  -- the bytes are records of these values, and perhaps part of one more
+  -- the bytes are records of the values, and perhaps a part of one more record
   Goes : (values : List E) → PlainReading E
-  -- the bytes `front` are such records, and an error is detected at the next byte
+  -- like `Goes` for the bytes `front`; an error is detected at the byte after `front`
   Stops : (front : List ℕ) (byte : ℕ) (values : List E) (fault : Fault) → PlainReading E
 
--- the bytes w have this reading
+-- the bytes w have the given reading
 abbrev pub ReadsPlain : {E : Type 0} → (List ℕ → E → Type 0) → (List ℕ → RecordError → Type 0) → ℕ → ℕ → List ℕ → PlainReading E → Type 0
 ReadsPlain spells breaks ahead limit w (Goes values) = BodyLive spells limit w values
 ReadsPlain spells breaks ahead limit w (Stops front byte values fault) =

@@ -25,7 +25,7 @@ use Rattle.mes_stream.specs.declared.read_loop.ReadsEnd.TheVariants.{Stopped, At
 use Rattle.mes_stream.specs.declared.stream_reader.Framing.{Framing}
 use Rattle.mes_stream.specs.declared.stream_reader.Framing.TheVariants.{Plain, Chunked}
 
--- the number of records, of any kind, and of bytes before the stream
+-- the number of records and the number of bytes that precede the stream
 pub record Ahead : Type 0 where
   pub records : ℕ
   pub bytes : ℕ
@@ -33,14 +33,14 @@ pub record Ahead : Type 0 where
 abbrev pub nothing_ahead : Ahead
 nothing_ahead = record { records = 0; bytes = 0 }
 
--- the error is detected at one of the last 512 bytes of w
+-- the error `fault` is detected at one of the last 512 bytes of w
 pub record StopsAt {E : Type 0} (framing : Framing) (spells : List ℕ → E → Type 0) (breaks : List ℕ → RecordError → Type 0) (ahead : Ahead) (limit : ℕ) (w : List ℕ) (values : List E) (used : ℕ) (fault : Fault) : Type 0 where
   pub n : ℕ
   pub count : used ≡ saturated (ahead.bytes + n)
   pub stops : StopsWithin framing spells breaks ahead.records limit w values fault n
   pub last : length w < n + MAX_READ
 
--- one of the last 512 bytes of w ends the stream, and the rest are the bytes after it
+-- one of the last 512 bytes of w ends the stream, and `rest` are the bytes of w after that byte
 pub record EndsAt {E : Type 0} (framing : Framing) (spells : List ℕ → E → Type 0) (ahead : Ahead) (limit : ℕ) (w : List ℕ) (values : List E) (used : ℕ) (rest : List ℕ) : Type 0 where
   pub stream : List ℕ
   pub is : w ≡ stream ++ rest
@@ -48,7 +48,7 @@ pub record EndsAt {E : Type 0} (framing : Framing) (spells : List ℕ → E → 
   pub ends : EndsIn framing spells limit stream values
   pub last : length rest < MAX_READ
 
--- one of the last 512 bytes of w ended the stream, or an error was detected there
+-- one of the last 512 bytes of w ended the stream, or an error was detected at that byte
 abbrev pub ByteEndsAfter : {E : Type 0} → Framing → (List ℕ → E → Type 0) → (List ℕ → RecordError → Type 0) → Ahead → ℕ → List ℕ → List E → Result Report Stop → Type 0
 ByteEndsAfter framing spells breaks ahead limit w values (Ok report) = EndsAt framing spells ahead limit w values report.used report.rest.items
 ByteEndsAfter framing spells breaks ahead limit w values (Err stop) = StopsAt framing spells breaks ahead limit w values stop.used stop.fault
@@ -60,7 +60,7 @@ EndMeans framing spells ahead limit w values (Ok report) =
 EndMeans framing spells ahead limit w values (Err stop) =
     InputEnds {T = Unit {0}} framing spells limit w values (Err stop.fault) × (stop.used ≡ saturated (ahead.bytes + length w))
 
--- the stream continues after w, but reading stopped with this error
+-- the stream continues after w, but reading stopped with the error `fault`
 abbrev pub BreaksOff : {E : Type 0} → Fault → Framing → (List ℕ → E → Type 0) → Ahead → ℕ → List ℕ → List E → Result Report Stop → Type 0
 BreaksOff fault framing spells ahead limit w values (Ok report) = ⊥
 BreaksOff fault framing spells ahead limit w values (Err stop) =
@@ -106,7 +106,7 @@ abbrev pub reported_as : {R : Type 0} → Reading R → ReadingStop → Result R
 reported_as d reading_stop.Ended = Ok (record { used = d.used; rest = d.rest })
 reported_as d (reading_stop.Fault fault) = Err (record { fault = fault; used = d.used })
 
--- the result for a piece after w; the list received the values of its records
+-- the result for a piece after w; the values of the records that end in the piece were appended
 abbrev pub ReadingTakesAfter : {R E T : Type 0} → (R → List ℕ → Type 0) → (List ℕ → E → Type 0) → (List ℕ → RecordError → Type 0) → Ahead → Reading R → Framing → ℕ → List ℕ → List E → List ℕ → List E → List E → Result T ReadingStop → Type 0
 ReadingTakesAfter {E = E} holds spells breaks ahead new framing limit w values piece old now (Ok done) =
     (more : List E) × (now ≡ old ++ more) × ReadingRepresentsAfter holds spells ahead new framing limit (w ++ piece) (values ++ more)
@@ -127,13 +127,13 @@ ReadingTakesRecord holds spells breaks ahead new framing limit w values piece (O
     × GoesBefore framing spells limit w values piece ended.used
 ReadingTakesRecord holds spells breaks ahead new framing limit w values piece (Err stop) = ByteEndsAfter framing spells breaks ahead limit (w ++ piece) values (reported_as new stop)
 
--- a record ended inside the piece, if one ended
+-- if a record ended, the number of bytes used is positive and at most the piece's length `len`
 abbrev pub EndsWithin : {E T : Type 0} → ℕ → Result (Option (EndedRecord E)) T → Type 0
 EndsWithin len (Ok None) = Unit {0}
 EndsWithin len (Ok (Some ended)) = (0 < ended.used) × (ended.used ≤ len)
 EndsWithin len (Err stop) = Unit {0}
 
--- the result for the way in which the reads ended
+-- the report of the reading, from the way in which the reads ended
 abbrev pub MeansAfter : {R E : Type 0} → (R → List ℕ → Type 0) → (List ℕ → E → Type 0) → Ahead → Reading R → ReadsEnd ReadingStop → Result Report Stop → Type 0
 MeansAfter holds spells ahead d (Stopped stop) answer = answer ≡ reported_as d stop
 MeansAfter {E = E} holds spells ahead d AtEnd answer =
@@ -146,14 +146,16 @@ MeansAfter {E = E} holds spells ahead d Spent answer =
 abbrev pub Means : {R E : Type 0} → (R → List ℕ → Type 0) → (List ℕ → E → Type 0) → Reading R → ReadsEnd ReadingStop → Result Report Stop → Type 0
 Means holds spells d end answer = MeansAfter holds spells nothing_ahead d end answer
 
--- From the first state to the second the reading consumed w, and appended its values to the list.
--- This holds for any bytes before w, and any records before the stream.
+-- Between the states `first` and `now` the reading consumed w, and appended the values of w to the
+-- list `start`, which became `to`. This holds for any bytes before w, and any records before the
+-- stream.
 abbrev pub Gathers : {R E : Type 0} → (R → List ℕ → Type 0) → (List ℕ → E → Type 0) → Reading R → List E → Reading R → List E → List ℕ → Type 0
 Gathers {E = E} holds spells first start now to w =
     (ahead : Ahead) (framing : Framing) (limit : ℕ) (v : List ℕ) (before : List E) → ReadingRepresentsAfter holds spells ahead first framing limit v before
     → (more : List E) × (to ≡ start ++ more) × ReadingRepresentsAfter holds spells ahead now framing limit (v ++ w) (before ++ more)
 
--- the stream ended, or an error was detected, in the piece after w; nothing is buffered
+-- like `Gathers`, but the stream ended or an error was detected in the piece after w, and nothing
+-- is buffered
 abbrev pub GathersLast : {R E : Type 0} → (R → List ℕ → Type 0) → (List ℕ → E → Type 0) → (List ℕ → RecordError → Type 0) → (R → ℕ) → Reading R → List E → Reading R → List E → List ℕ → List ℕ → ReadingStop → Type 0
 GathersLast {E = E} holds spells breaks kept first start now to w piece stop =
     ((ahead : Ahead) (framing : Framing) (limit : ℕ) (v : List ℕ) (before : List E) → ReadingRepresentsAfter holds spells ahead first framing limit v before

@@ -7,18 +7,19 @@ use Rattle.mes_stream.specs.declared.limits.TheConstants.{MAX_READ}
 use Rattle.mes_stream.specs.declared.read_loop.ReadsEnd.{ReadsEnd}
 use Rattle.mes_stream.specs.declared.read_loop.ReadsEnd.TheVariants.{Stopped, AtEnd, Failed, Spent}
 
--- `made` reads, at most `reads`, gave w, at most 512 bytes each; some failed or reported the end
+-- `made` reads, at most `reads`, returned w, at most 512 bytes each; `failed` reads failed, and
+-- `ended` reads reported the end
 pub record ReadsMade (reads : ℕ) (old new : Counts) (w : List ℕ) (made failed ended : ℕ) : Type 0 where
   pub most : made ≤ reads
   pub bytes : length w ≤ MAX_READ * made
   pub calls : new.calls ≡ up old.calls made
   pub failures : new.failures ≡ up old.failures failed
   pub idle : new.idle ≡ up old.idle ended
-  -- no read both failed and reported the end, and each of the others gave a byte
+  -- no read both failed and reported the end, and each of the others returned a byte
   pub ends : failed + ended ≤ made
   pub gave : made ≤ length w + failed + ended
 
--- `ReadsMade` without a read that failed or reported the end
+-- `ReadsMade` for some number of reads
 abbrev pub SomeReadsMade : ℕ → Counts → Counts → List ℕ → ℕ → ℕ → Type 0
 SomeReadsMade reads old new w failed ended = (made : ℕ) × ReadsMade reads old new w made failed ended
 

@@ -1,4 +1,4 @@
--- Why the data of a record have no value, and the resulting error of the stream.
+-- The error of a record whose data have no value, and the resulting error of the stream.
 use Rattle.std.specs.Prelude.{ℕ, List}
 use Rattle.mes_json.specs.Place.{Begins}
 use Rattle.mes_json.specs.declared.limits.TheConstants.{MAX_NESTING}
@@ -16,14 +16,15 @@ refusal_of (message.Text f) = refusal.Text f
 refusal_of (message.Field f) = refusal.Field f
 refusal_of message.NoMemory = refusal.NoMemory
 
--- the data are no event; an allocation can fail only for data that begin a JSON text
+-- The data r are not an event, for the given reason. An allocation can fail only for data that
+-- begin a JSON text.
 abbrev pub IsEventRefusal : List ℕ → RecordError → Type 0
 IsEventRefusal r (refusal.Text f) = IsRecordFault r (message.Text f)
 IsEventRefusal r (refusal.Field f) = IsRecordFault r (message.Field f)
 IsEventRefusal r refusal.BadEntry = ⊥
 IsEventRefusal r refusal.NoMemory = Begins MAX_NESTING r
 
--- the error of a stream whose record of that number has no value
+-- the error of a stream whose record number n has no value
 abbrev pub fault_at_record : ℕ → RecordError → Fault
 fault_at_record n (refusal.Text f) = Text n f.byte f.why
 fault_at_record n (refusal.Field f) = Field n f.path f.why

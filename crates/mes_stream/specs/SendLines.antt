@@ -8,7 +8,7 @@ use Rattle.mes_stream.specs.declared.fault.Fault.TheVariants as fault
 use Rattle.mes_msg.specs.declared.send_fault.SendFault.{SendFault}
 use Rattle.mes_msg.specs.declared.send_fault.SendFault.TheVariants.{Encode, NoMemory, Write}
 
--- `encode failed event 1 TooLarge`, `fault F13 NoMemory after 0`, `write failed after 7`
+-- like `encode failed event 1 TooLarge`, `fault F13 NoMemory after 0`, `write failed after 7`
 abbrev pub send_text : SendFault → List ℕ
 send_text (Encode index why) = codes "encode failed event" ++ spaced (decimal (saturated (index + 1)) ∷ encode_fault_kind_name why ∷ [])
 send_text NoMemory = fault_text fault.NoMemory 0

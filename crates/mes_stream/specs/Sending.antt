@@ -23,16 +23,16 @@ use Rattle.mes_msg.specs.declared.send_fault.SendFault.TheVariants.{Encode, NoMe
 abbrev pub records_of : List Event → List ℕ
 records_of events = flat_map (λ event. record_bytes (canonical_text event)) events
 
--- each event has canonical JSON that fits a record of `limit` bytes
+-- the canonical JSON of each event can be encoded as a record of at most `limit` bytes
 abbrev pub AllGood : ℕ → List Event → Type 0
 AllGood limit events = All (λ event. IsGood event limit) events
 
--- the event cannot be encoded, for this reason
+-- the event cannot be encoded, for the given reason
 abbrev pub IsBad : ℕ → Event → EncodeFaultKind → Type 0
 IsBad limit event TooDeep = IsEncodeFault event limit refused.TooDeep
 IsBad limit event TooLarge = IsEncodeFault event limit refused.TooLarge
 
--- the event at this index, from 0, is the first that cannot be encoded, for this reason
+-- the event at `index`, counted from 0, is the first that cannot be encoded, for the reason `why`
 pub record IsFirstBad (limit : ℕ) (events : List Event) (index : ℕ) (why : EncodeFaultKind) : Type 0 where
   pub front : List Event
   pub event : Event
@@ -42,13 +42,13 @@ pub record IsFirstBad (limit : ℕ) (events : List Event) (index : ℕ) (why : E
   pub good : AllGood limit front
   pub bad : IsBad limit event why
 
--- w is the events as plain RecordIO, and decodes to them
+-- w is the encoding of the events as plain RecordIO, and decodes to the events
 pub record IsPlainOf (limit : ℕ) (events : List Event) (w : List ℕ) : Type 0 where
   pub good : AllGood limit events
   pub written : w ≡ records_of events
   pub read : Records Spells limit w events
 
--- w is the events as a stream in chunks of `most` bytes, and decodes to them
+-- w is the encoding of the events as a stream in chunks of `most` bytes, and decodes to the events
 pub record IsStreamOf (limit most : ℕ) (events : List Event) (w : List ℕ) : Type 0 where
   pub good : AllGood limit events
   pub written : IsFrames (records_of events) most w
@@ -72,7 +72,7 @@ IsUnsent limit events (Encode index why) = IsFirstBad limit events index why
 IsUnsent limit events NoMemory = Unit {0}
 IsUnsent limit events (Write fault) = ⊥
 
--- the error for the event at this index
+-- the error of a send whose event at `index` cannot be encoded
 abbrev pub fault_at : ℕ → EncodeFault → SendFault
 fault_at index refused.TooDeep = Encode index TooDeep
 fault_at index refused.TooLarge = Encode index TooLarge

@@ -1,5 +1,5 @@
--- A stream of values as plain RecordIO: consecutive records, with data that represent one value
--- each. `spells` gives the data of each value, and `breaks` the error of data without a value.
+-- A stream of values as plain RecordIO: consecutive records whose data each represent one value.
+-- `spells` relates data to their value, and `breaks` data without a value to their error.
 use Rattle.std.specs.Prelude.{◌≡◌, ◌≢◌, ℕ, ◌+◌, ◌-◌, ◌^◌, ◌⊎◌, min, List, [], ◌∷◌, ◌++◌, length}
 use Rattle.mes_frame.specs.Record.{IsRecord, Begun, DataBegun, SizeShows}
 use Rattle.mes_stream.specs.declared.record_error.RecordError.{RecordError}
@@ -11,14 +11,14 @@ use Rattle.mes_stream.specs.declared.fault.Fault.TheVariants.{Frame, EndsInsideC
 abbrev pub saturated : ℕ → ℕ
 saturated n = min n (2 ^ 64 - 1)
 
--- the bytes are records of the values in order, each with at most `limit` bytes of data
+-- the bytes b are records of the values in order, each with at most `limit` bytes of data
 abbrev pub Records : {E : Type 0} → (List ℕ → E → Type 0) → ℕ → List ℕ → List E → Type 0
 Records spells limit b [] = b ≡ []
 Records spells limit b (value ∷ values) =
     (front : List ℕ) × (rest : List ℕ) × (r : List ℕ) × IsRecord front r limit × spells r value × (b ≡ front ++ rest)
     × Records spells limit rest values
 
--- the bytes are records of the values, followed by an x for which `Is` holds
+-- the bytes b are records of the values, followed by bytes x for which `Is` holds
 pub record Following {E : Type 0} (spells : List ℕ → E → Type 0) (limit : ℕ) (Is : List ℕ → Type 0) (b : List ℕ) (values : List E) : Type 0 where
   pub whole : List ℕ
   pub x : List ℕ
@@ -26,15 +26,15 @@ pub record Following {E : Type 0} (spells : List ℕ → E → Type 0) (limit : 
   pub records : Records spells limit whole values
   pub is : Is x
 
--- the bytes are records of the values, and perhaps part of one more
+-- the bytes b are records of the values, and perhaps a part of one more record
 abbrev pub BodyLive : {E : Type 0} → (List ℕ → E → Type 0) → ℕ → List ℕ → List E → Type 0
 BodyLive spells limit b values = Following spells limit (λ x. (r : List ℕ) × Begun x r limit) b values
 
--- the bytes are records of the values, followed by an incomplete one
+-- the bytes b are records of the values, followed by an incomplete record
 abbrev pub EndsInside : {E : Type 0} → (List ℕ → E → Type 0) → ℕ → List ℕ → List E → Type 0
 EndsInside spells limit b values = Following spells limit (λ x. (x ≢ []) × ((r : List ℕ) × Begun x r limit)) b values
 
--- the number, from 1, of the record after the values, if `ahead` records are before the stream
+-- the number, from 1, of the record after those of the values; `ahead` records precede the stream
 abbrev pub number_after : {E : Type 0} → ℕ → List E → ℕ
 number_after ahead values = saturated (ahead + length values + 1)
 
@@ -42,11 +42,11 @@ number_after ahead values = saturated (ahead + length values + 1)
 abbrev pub EndsRecord : {E : Type 0} → (List ℕ → E → Type 0) → ℕ → List ℕ → List E → ℕ → (List ℕ → Type 0) → Type 0
 EndsRecord spells limit b values c Is = Following spells limit (λ x. (r : List ℕ) × IsRecord (x ++ c ∷ []) r limit × Is r) b values
 
--- the data represent the value, and are not empty
+-- the data r represent the value, and are not empty
 abbrev pub HasValue : {E : Type 0} → (List ℕ → E → Type 0) → E → List ℕ → Type 0
 HasValue spells value r = (r ≢ []) × spells r value
 
--- an error is detected at the byte c after b: in a size line, or in the record that it ends
+-- the error is detected at the byte c after b: in a size line, or in the record that c ends
 abbrev pub BodyShows : {E : Type 0} → (List ℕ → E → Type 0) → (List ℕ → RecordError → Type 0) → ℕ → ℕ → List ℕ → List E → ℕ → Fault → Type 0
 BodyShows spells breaks ahead limit b values c (Frame fault) = Following spells limit (λ x. SizeShows x c limit fault) b values
 BodyShows spells breaks ahead limit b values c (Text at_record byte why) =
@@ -61,18 +61,19 @@ BodyShows spells breaks ahead limit b values c ReadsSpent = ⊥
 BodyShows spells breaks ahead limit b values c (BadEntry at_record) =
     EndsRecord spells limit b values c (λ r. breaks r refusal.BadEntry) × (at_record ≡ number_after ahead values)
 
--- the byte after b is data of a record; `Is` holds of the data before it and the length to come
+-- the byte after b is data of a record; `Is` relates the record's data in b to the number of bytes
+-- of data after b
 abbrev pub InRecordData : {E : Type 0} → (List ℕ → E → Type 0) → ℕ → List ℕ → List E → (List ℕ → ℕ → Type 0) → Type 0
 InRecordData spells limit b values Is = Following spells limit (λ x. (r : List ℕ) × (left : ℕ) × DataBegun x r left limit × Is r left) b values
 
--- an allocation may fail at the byte c of a record's data, if `breaks` permits that for them
+-- an allocation may fail at the byte c after the data r of a record, as `breaks` permits
 abbrev pub MayFail : (List ℕ → RecordError → Type 0) → ℕ → List ℕ → ℕ → Type 0
 MayFail breaks c r left = breaks r refusal.NoMemory ⊎ ((left ≡ 1) × breaks (r ++ c ∷ []) refusal.NoMemory)
 
 abbrev pub RunsOut : {E : Type 0} → (List ℕ → E → Type 0) → (List ℕ → RecordError → Type 0) → ℕ → List ℕ → List E → ℕ → Type 0
 RunsOut spells breaks limit b values c = InRecordData spells limit b values (MayFail breaks c)
 
--- an error is detected at the byte c, or an allocation fails there, as `breaks` permits
+-- the error is detected at the byte c after b, or an allocation fails there, as `breaks` permits
 abbrev pub BodyStops : {E : Type 0} → (List ℕ → E → Type 0) → (List ℕ → RecordError → Type 0) → ℕ → ℕ → List ℕ → List E → ℕ → Fault → Type 0
 BodyStops spells breaks ahead limit b values c fault =
     BodyShows spells breaks ahead limit b values c fault ⊎ ((fault ≡ NoMemory) × RunsOut spells breaks limit b values c)

@@ -14,7 +14,7 @@ use Rattle.mes_stream.specs.declared.stream_reader.StreamReader.TheVariants as r
 use Rattle.mes_stream.specs.declared.step.Decoded.{Decoded}
 use Rattle.mes_stream.specs.declared.step.Decoded.TheVariants as out
 
--- the body of the reader, and the reader with another body
+-- the body of a reader, and the same reader with another body
 abbrev pub body_of : {R : Type 0} → StreamReader R → Body R
 body_of (reader.Plain body) = body
 body_of (reader.Chunked chunked) = chunked.body
@@ -23,15 +23,15 @@ abbrev pub with_body : {R : Type 0} → StreamReader R → Body R → StreamRead
 with_body (reader.Plain body) after = reader.Plain after
 with_body (reader.Chunked chunked) after = reader.Chunked (record { chunks = chunked.chunks; body = after })
 
--- The reader of that framing has consumed w, a prefix with the values. Nothing is stated after the
--- end or an error.
+-- The reader decodes the given framing, and has consumed w, a prefix of a stream with the values.
+-- This does not hold after the end or an error.
 abbrev pub StreamRepresents : {R E : Type 0} → (R → List ℕ → Type 0) → (List ℕ → E → Type 0) → ℕ → StreamReader R → Framing → ℕ → List ℕ → List E → Type 0
 StreamRepresents holds spells ahead (reader.Plain body) framing limit w values = (framing ≡ Plain) × BodyRepresents holds spells ahead body w values × (limit_of body.records ≡ limit)
 StreamRepresents holds spells ahead (reader.Chunked chunked) framing limit w values =
     (framing ≡ Chunked) × ChunkedRepresents holds spells ahead chunked w values × (limit_of chunked.body.records ≡ limit)
 
--- The result of `feed` for a piece after w. The values of the records that ended before were
--- appended to the list, so that no result is an event.
+-- The result of `feed` for a piece after w. The values of the records that ended in the piece were
+-- appended to the list `old`, so that no result is an event.
 abbrev pub StreamFeeds : {R E V : Type 0} → (R → List ℕ → Type 0) → (List ℕ → E → Type 0) → (List ℕ → RecordError → Type 0) → ℕ → StreamReader R → Framing → ℕ → List ℕ → List E → List ℕ → List E → List E → ℕ → Decoded V Fault → Type 0
 StreamFeeds {E = E} holds spells breaks ahead new framing limit w values piece old now used out.More =
     (more : List E) × (now ≡ old ++ more) × StreamRepresents holds spells ahead new framing limit (w ++ piece) (values ++ more)
@@ -42,7 +42,7 @@ StreamFeeds {E = E} holds spells breaks ahead new framing limit w values piece o
     (more : List E) × (now ≡ old ++ more) × (0 < used)
     × StopsWithin framing spells breaks ahead limit (w ++ piece) (values ++ more) fault (length w + used)
 
--- after the end or an error nothing is buffered: after a step, and after a reading stopped
+-- nothing is buffered if the result of a step is the end or an error, or if a reading has stopped
 abbrev pub KeepsNoneAfterAnswer : {E : Type 0} → ℕ → Decoded E Fault → Type 0
 KeepsNoneAfterAnswer kept out.More = Unit {0}
 KeepsNoneAfterAnswer kept (out.Event value) = Unit {0}

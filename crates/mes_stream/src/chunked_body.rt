@@ -1,4 +1,4 @@
-//! Decodes the records in a chunked body. `record_body.rt` decodes the records of its data.
+//! Decodes a chunked body. `record_body.rt` decodes the records in the body's data.
 
 ghost use Rattle.std.specs.Prelude.{◌≡◌, ◌<◌, ◌≤◌, ℕ, List, [], ◌∷◌, ◌++◌, length, slice_index};
 ghost use Rattle.mes_frame.specs.ChunkState.{ChunkRepresents, PassesFraming, remaining_of};
@@ -16,8 +16,8 @@ use arrayvec::ArrayVec;
 use mes_frame::{ChunkOut, ChunkState};
 use mes_json::NoMemoryAt;
 
-/// Decodes a chunked stream up to its end or first error. After either, no more pieces may be
-/// given.
+/// Decodes a chunked stream up to its end or first error. No more pieces may be given after the
+/// end or an error.
 #[derive(Drop)]
 pub struct ChunkedBody<R> {
     chunks: ChunkState,
@@ -37,8 +37,8 @@ impl<R: RecordReader> ChunkedBody<R> {
         }
     }
 
-    /// Consumes bytes from the start of a piece: several short chunks, framing bytes, or a run of
-    /// data.
+    /// Consumes bytes from the start of a piece: several short chunks, framing bytes, or data of
+    /// one chunk.
     pub(crate) fn consume(&mut self, rest: &[u8]) -> Step<(), PackedFault>
         requires { 0 < length rest.now }
         ensures reports { (ahead : ℕ) (w : List ℕ) (values : List R.Value)
@@ -92,8 +92,8 @@ impl<R: RecordReader> ChunkedBody<R> {
         self.take_framing(rest)
     }
 
-    // Consumes short chunks without extensions, while the record continues. They are decoded as one
-    // run of data.
+    // Consumes short chunks without extensions, while the record continues. Their data are decoded
+    // together.
     fn take_short(&mut self, rest: &[u8]) -> Step<(), PackedFault>
         ensures reports { (ahead : ℕ) (w : List ℕ) (values : List R.Value)
             → ChunkedRepresents R.holds R.spells ahead self.old w values
@@ -218,8 +218,8 @@ fn gather_short_chunks(chunks: &mut ChunkState, piece: &[u8], most: usize) -> Sh
     }
 }
 
-// Consumes framing bytes, and returns their number. It stops before data, and before a byte that
-// ends the stream or is an error.
+// Consumes framing bytes, and returns their number. Stops before a byte of data, and before a byte
+// that ends the stream or is an error.
 fn frame_run(chunks: &mut ChunkState, rest: &[u8]) -> usize
     ensures passes { (w body : List ℕ) → ChunkRepresents chunks.old w body
         → PassesFraming chunks.new w body rest.now result }

@@ -1,4 +1,4 @@
-//! Decodes a stream read by read, and counts the bytes used. `device.rt` makes the reads.
+//! Decodes a stream read by read, and counts the bytes used. `read_loop.rt` makes the reads.
 
 ghost use Rattle.std.specs.Prelude.{◌≡◌, ◌+◌, ◌<◌, ◌≤◌, ℕ, List, [], length};
 ghost use Rattle.mes_stream.specs.Decoders.{HoldsIn};
@@ -29,8 +29,8 @@ pub struct Reading<R> {
     rest: ArrayVec<u8, MAX_REST>,
 }
 
-/// The reason for which a [`Reading`] stopped. It is small, because each call returns one;
-/// [`Reading::outcome`] returns the full report.
+/// The reason for which a [`Reading`] stopped. The type is small, because each call returns a
+/// value of it; [`Reading::outcome`] returns the full report.
 #[derive(Drop)]
 pub enum ReadingStop {
     /// A byte of the piece ended the stream.
@@ -57,8 +57,8 @@ impl<R: RecordReader> Reading<R> {
         Reading::following(framing, records, limit, 0, 0)
     }
 
-    /// Like [`new`](Self::new), but after `done` records of any kind in `used` bytes. Record
-    /// numbers and byte counts continue from there.
+    /// Like [`new`](Self::new), but `done` records in `used` bytes precede the stream. Record
+    /// numbers and byte counts continue after those.
     pub fn following(framing: Framing, records: R, limit: Limit, done: u64, used: u64) -> Reading<R>
         requires { R.holds records [] }
         // The state before the first byte, after `done` records in `used` bytes.
@@ -88,7 +88,7 @@ impl<R: RecordReader> Reading<R> {
     /// Returns the number of buffered bytes of an incomplete record: 0 after the end or an error.
     pub fn held(&self) -> u64
         ensures count { result ≡ held_by_reading R.kept self.now }
-        // The bound: what the reader may buffer of the incomplete record.
+        // The bound: what the reader of records may buffer of the incomplete record.
         ensures most { (ahead : Ahead) (framing : FramingValue) (limit : ℕ) (w : List ℕ)
             (values : List R.Value) → ReadingRepresentsAfter R.holds R.spells ahead self.now framing
             limit w values
@@ -101,7 +101,8 @@ impl<R: RecordReader> Reading<R> {
     /// Returns `Err` once the stream has ended or has an error; no bytes may be given after that.
     pub fn next(&mut self, piece: &[u8]) -> Result<Option<EndedRecord<R::Value>>, ReadingStop>
         requires { length piece.now ≤ MAX_READ }
-        // On success: a record ended, or the whole piece was used. Each error, and when.
+        // On success: a record ended, or the whole piece was used. Then: when each error is
+        // returned.
         ensures reads { (ahead : Ahead) (framing : FramingValue) (limit : ℕ) (w : List ℕ)
             (values : List R.Value) → ReadingRepresentsAfter R.holds R.spells ahead self.old framing
             limit w values
@@ -128,8 +129,8 @@ impl<R: RecordReader> Reading<R> {
     /// the stream has ended or has an error; no bytes may be given after that.
     pub fn feed(&mut self, piece: &[u8], values: &mut Vec<R::Value>) -> Result<(), ReadingStop>
         requires { length piece.now ≤ MAX_READ }
-        // On success: the whole piece was used. Each error, and when; the values before it are
-        // appended.
+        // On success: the whole piece was used. Then: when each error is returned; the values
+        // before the error are appended.
         ensures takes { (ahead : Ahead) (framing : FramingValue) (limit : ℕ) (w : List ℕ)
             (before : List R.Value) → ReadingRepresentsAfter R.holds R.spells ahead self.old framing
             limit w before
@@ -150,8 +151,8 @@ impl<R: RecordReader> Reading<R> {
         }
     }
 
-    /// Returns the result for the way in which the reads ended, and frees the buffers. No bytes may
-    /// be given after that.
+    /// Returns the report for `end`, the way in which the reads ended, and frees the buffers. No
+    /// bytes may be given after that.
     pub fn outcome(&mut self, end: ReadsEnd<ReadingStop>) -> Result<Report, Stop>
         ensures means { (ahead : Ahead) → MeansAfter R.holds R.spells ahead self.old end result }
         ensures used { self.new.used ≡ self.old.used }

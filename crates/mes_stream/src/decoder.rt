@@ -1,5 +1,5 @@
-//! Decodes a chunked stream in pieces of any size. It remembers how the stream ended;
-//! `stream_reader.rt` decodes either framing, but does not.
+//! Decodes a chunked stream in pieces of any size, and remembers how the stream ended.
+//! `stream_reader.rt` decodes either framing, but does not remember the end.
 
 ghost use Rattle.std.specs.Prelude.{◌≡◌, ◌≢◌, ℕ, ◌+◌, ◌<◌, ◌≤◌, List, [], ◌++◌, length, None, Some, IfSome};
 ghost use Rattle.mes_stream.specs.Chunked.{Live};
@@ -36,7 +36,7 @@ impl StreamEnd {
         }
     }
 
-    // Returns the end that a result implies, if it implies one.
+    // Returns how the stream ended, if the result is the end or an error.
     fn brought<V>(out: &Decoded<V>) -> Option<StreamEnd>
         ensures { EndsBy result out.now }
     {
@@ -88,7 +88,7 @@ impl<R: RecordReader> RecordDecoder<R> {
     /// Decodes a piece up to the end of a record or of the stream, the first error, or the end of
     /// the piece. After the end or an error, every later call returns the same and uses no byte.
     pub fn next(&mut self, piece: &[u8]) -> Step<R::Value>
-        // Each result, and when, if `w` are the bytes so far and `values` their values.
+        // When each result is returned, if `w` are the bytes so far and `values` their values.
         ensures says { (limit : ℕ) (w : List ℕ) (values : List R.Value)
             → DecoderRepresents R.holds R.spells self.old limit w values
             → Says (DecoderRepresents R.holds R.spells self.new limit) R.spells R.breaks limit w
@@ -153,7 +153,7 @@ impl<R: RecordReader> RecordDecoder<R> {
     /// Returns the number of buffered bytes of an incomplete record, without spare capacity. For
     /// events these are at most the bytes inside its strings and numbers.
     pub fn held(&self) -> u64
-        // The bound: what the reader may buffer of the incomplete record.
+        // The bound: what the reader of records may buffer of the incomplete record.
         ensures held { (limit : ℕ) (w : List ℕ) (values : List R.Value)
             → DecoderRepresents R.holds R.spells self.now limit w values
             → HoldsOf R.spells R.room limit w values result }

@@ -14,8 +14,8 @@ use mes_msg::{EncodeFault, EncodeFaultKind, Event, SendFault};
 use mes_msg_record::canonical_into;
 use std::alloc::Global;
 
-/// Encodes events as consecutive records of their canonical JSON. Errors: the first event that is
-/// nested too deeply or that no record of `limit` bytes can hold; or a failed allocation.
+/// Encodes events as consecutive records of their canonical JSON. Errors: the first event that
+/// nests too deeply, or whose JSON has more than `limit` bytes; or a failed allocation.
 pub fn encode_events(alloc: Global, events: &[Event], limit: Limit) -> Result<Vec<u8>, SendFault>
     ensures ok { IfOk result (λ body. IsPlainOf limit events.now body.items) }
     ensures err { IfErr result (IsUnsent limit events.now) }

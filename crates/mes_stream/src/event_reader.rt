@@ -13,8 +13,8 @@ use mes_model_schema::{Part, PathBuilder};
 use mes_msg::Event;
 use std::alloc::Global;
 
-/// Decodes the data of records as events. It lexes the JSON as the bytes arrive, and reuses its
-/// memory for the next record.
+/// Decodes the data of records as events. Lexes the JSON as the bytes arrive, and reuses the
+/// memory of a record for the next one.
 #[derive(Drop)]
 pub struct EventReader {
     alloc: Global,

@@ -14,7 +14,7 @@ use mes_model_schema::{FieldFaultKind, Path};
 pub enum Fault {
     /// F1 to F5: the chunked framing is invalid; F7 to F9: the size line of a record is invalid.
     Frame(FrameFault),
-    /// F6: the input ended before the chunked body did, or had no bytes.
+    /// F6: the input ended before the end of the chunked body, or had no bytes.
     EndsInsideChunks,
     /// F10: the stream ended inside a record.
     EndsInsideRecord,
@@ -23,9 +23,9 @@ pub enum Fault {
     Text {
         /// The number of the record, from 1.
         at_record: u64,
-        /// The offset in the record of the first byte that no JSON text has there.
+        /// The offset in the record of the first byte that is invalid in a JSON text there.
         byte: u64,
-        /// The reason for which the JSON text is invalid there.
+        /// The reason for which the JSON text is invalid at that offset.
         why: TextFaultKind,
     },
     /// F12: the record is JSON, but not an event. Reported at the record's last byte.

@@ -3,7 +3,7 @@
 //! RecordIO in an HTTP chunked body (RFC 9112 section 7.1).
 //!
 //! [`Decoder`] takes a body in pieces of any size; [`read_stream`] and [`read_plain`] read a
-//! device. They return every event before the first error, and the byte at which that is detected.
+//! device. They return every event before the first error, and the position of that error.
 //! [`write_stream`] and [`write_plain`] encode, and write nothing unless every event can be
 //! encoded.
 //!

@@ -13,7 +13,7 @@ use itoa::Buffer;
 use mes_json::TextFaultKind;
 use mes_model_schema::{MAX_PATH_TEXT, Path};
 
-/// Replaces `line` with the line of an error; `used` is the number of bytes used up to it.
+/// Replaces `line` with the line of an error; `used` is the number of bytes used up to the error.
 pub fn fault_line(fault: &Fault, used: u64, line: &mut ArrayString<MAX_FAULT_LINE>)
     ensures { line.new.bytes ≡ fault_text fault.now used }
 {
@@ -36,8 +36,8 @@ pub fn count_line(events: u64, used: u64, line: &mut ArrayString<MAX_COUNT_LINE>
     push_number(line, used);
 }
 
-/// Appends the record, the place and the reason, if the error is in a record: at most 41 bytes and
-/// a path.
+/// Appends the number of the record, the place in it and the reason, if the error is in a record:
+/// at most 41 bytes and a path.
 fn push_details(line: &mut ArrayString<MAX_FAULT_LINE>, fault: &Fault)
     requires { array_string_len line.old + MAX_PATH_TEXT + 41 ≤ MAX_FAULT_LINE }
     ensures text { line.new.bytes ≡ line.old.bytes ++ spaced (details fault.now) }

@@ -11,8 +11,8 @@ use mes_json::TextFaultKind;
 use mes_model_schema::{BoxedFault, FieldFault};
 use std::marker::Model;
 
-/// An error in compact form. The result of every step has room for one, so a path is stored in
-/// separate memory. In contracts its value is the [`Fault`].
+/// An error in compact form: the result of every step has room for an error, so that a path is
+/// stored in separate memory. In contracts the value of a compact error is the [`Fault`].
 #[derive(Drop)]
 pub struct PackedFault {
     kind: Kind,
@@ -92,7 +92,7 @@ impl PackedFault {
         PackedFault { kind }
     }
 
-    /// Returns the error.
+    /// Returns the error in its public form.
     pub fn into_fault(self) -> Fault
         ensures { result ≡ self }
     {

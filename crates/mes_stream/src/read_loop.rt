@@ -7,16 +7,16 @@ ghost use Rattle.mes_stream.specs.Reads.{EndsReads};
 use crate::limits::MAX_READ;
 use mes_frame::Source;
 
-/// Consumes the bytes of a device's reads, and changes an object of type `T` with them.
+/// Consumes the bytes of a device's reads, and updates an object of type `T` with the bytes.
 pub trait Consumer<T> {
     /// The reason for which the consumer stopped.
     type Stop: Drop;
 
-    /// These bytes changed the consumer and the object from the first states to the second, and the
-    /// consumer continues.
+    /// The bytes changed the consumer and the object from the first pair of states to the second,
+    /// and the consumer continues.
     ghost goes: { Self → T → Self → T → List ℕ → Type 0 };
 
-    /// Like `goes`, for the bytes before the last piece; with that piece the consumer stopped.
+    /// Like `goes`, for the bytes before the last piece; the consumer stopped in that piece.
     ghost stops: { Self → T → Self → T → List ℕ → List ℕ → Self.Stop → Type 0 };
 
     /// Consumes the bytes of one read. An error stops the reading.
@@ -26,7 +26,7 @@ pub trait Consumer<T> {
         // On success: the consumer continues after the piece.
         ensures more { (first : Self) (start : T) (w : List ℕ) → goes first start self.old to.old w
             → OnOk result (goes first start self.new to.new (w ++ piece.now)) }
-        // On an error: the consumer stopped with the piece.
+        // On an error: the consumer stopped in the piece.
         ensures stop { (first : Self) (start : T) (w : List ℕ) → goes first start self.old to.old w
             → IfErr result (stops first start self.new to.new w piece.now) };
 }
@@ -53,7 +53,7 @@ pub fn read_device<S: Source, T, C: Consumer<T>>(
     to: &mut T,
 ) -> ReadsEnd<C::Stop>
     requires { C.goes consumer.old to.old consumer.old to.old [] }
-    // The bytes taken from the device, the states of `consumer` and `to`, and the number of calls.
+    // The bytes read from the device, the states of `consumer` and `to`, and the number of reads.
     ensures { (w : List ℕ) × Consumes (S.left source.old) (S.left source.new) w
         × EndsReads (C.goes consumer.old to.old consumer.new to.new)
         (C.stops consumer.old to.old consumer.new to.new) max_reads

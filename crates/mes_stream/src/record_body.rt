@@ -1,5 +1,5 @@
-//! Decodes consecutive records from runs of any size, and reports the end of each. It is what plain
-//! RecordIO and the data of a chunked body share.
+//! Decodes consecutive records from runs of bytes of any size, and reports the end of each record.
+//! Used for plain RecordIO, and for the data of a chunked body.
 
 ghost use Rattle.std.specs.Prelude.{◌≡◌, true, false, ◌+◌, ◌^◌, ◌<◌, ◌≤◌, ℕ, List, [], ◌++◌, length, IfOk, IfErr, OnOk, take};
 ghost use Rattle.mes_frame.specs.Record.{Begun};
@@ -28,8 +28,8 @@ pub struct Body<R> {
     done: u64,
 }
 
-// What a run begins with: bytes of a size line, data of a record, the end of a record without data,
-// or a byte that no size line has there.
+// The beginning of a run of bytes: bytes of a size line, data of a record, the end of a record
+// without data, or a byte that is invalid in a size line there.
 #[derive(Drop)]
 enum Front {
     Size { count: usize },
@@ -48,8 +48,8 @@ impl<R: RecordReader> Body<R> {
         Body::following(reader, limit, 0)
     }
 
-    /// Like [`new`](Self::new), but after `done` records of any kind: its own are numbered from
-    /// there.
+    /// Like [`new`](Self::new), but `done` records precede the body: the numbers of its records
+    /// continue after those.
     pub fn following(reader: R, limit: Limit, done: u64) -> Body<R>
         requires { R.holds reader [] }
         // The state before the first byte, after `done` records.
@@ -78,7 +78,7 @@ impl<R: RecordReader> Body<R> {
         self.records.between()
     }
 
-    /// Consumes bytes of a size line, or data, from the start of a run.
+    /// Consumes bytes of a size line, or data of a record, from the start of `run`.
     #[inline(always)]
     pub(crate) fn consume(&mut self, run: &[u8]) -> Step<(), PackedFault>
         requires { 0 < length run.now }
@@ -131,13 +131,13 @@ impl<R: RecordReader> Body<R> {
         self.records.room()
     }
 
-    /// Consumes a run of data that does not end the record.
+    /// Consumes the bytes `run` of a record's data, which do not end the record.
     pub(crate) fn pass(&mut self, run: &[u8]) -> Result<(), NoMemoryAt>
         requires { length run.now < remaining_of self.old.records }
         ensures ok { OnOk result ((ahead : ℕ) (b : List ℕ) (values : List R.Value)
             → BodyRepresents R.holds R.spells ahead self.old b values
             → BodyRepresents R.holds R.spells ahead self.new (b ++ run.now) values) }
-        // On an error: an allocation failed at the byte after `taken` bytes of the run.
+        // On an error: an allocation failed at the byte after `taken` bytes of `run`.
         ensures err { IfErr result (λ refused. 0 < length run.now
             → refused.taken < length run.now) }
         ensures before { (r : List ℕ) → R.holds self.old.reader r
@@ -173,7 +173,7 @@ impl<R: RecordReader> Body<R> {
     /// Returns the number of buffered bytes of the incomplete record.
     pub fn held(&self) -> u64
         ensures count { result ≡ held_by_body R.kept self.now }
-        // The bound: what the reader may buffer of the incomplete record.
+        // The bound: what `reader` may buffer of the incomplete record.
         ensures most { (ahead : ℕ) (b : List ℕ) (values : List R.Value)
             → BodyRepresents R.holds R.spells ahead self.now b values
             → HoldsInBody R.spells R.room (limit_of self.now.records) b values result }
@@ -196,7 +196,7 @@ impl<R: RecordReader> Body<R> {
     }
 }
 
-// Determines what a run begins with, and passes data to the reader of records.
+// Determines what `run` begins with, and advances `records` past those bytes.
 #[inline(always)]
 fn front_of(records: &mut RecordState, run: &[u8]) -> Front
     requires { 0 < length run.now }
@@ -220,7 +220,7 @@ fn front_of(records: &mut RecordState, run: &[u8]) -> Front
     }
 }
 
-// Consumes the bytes of a size line at the start of a run, and returns their number.
+// Consumes the bytes of a size line at the start of `run`, and returns their number.
 fn size_run(records: &mut RecordState, run: &[u8]) -> usize
     ensures represents { (x r : List ℕ) → RecordStands records.old x r
         → RecordStands records.new (x ++ take result run.now) r }

@@ -11,7 +11,7 @@ pub enum RecordError {
     Text(TextFault),
     /// The data are JSON, but not of a value of this type.
     Field(BoxedFault),
-    /// The data are not an entry of this log. A reader of events never returns this error.
+    /// The data are not an entry of the session log. A reader of events never returns this error.
     BadEntry,
     /// An allocation failed.
     NoMemory,

@@ -7,7 +7,7 @@ ghost use Rattle.mes_stream.specs.declared.record_error.RecordError.{RecordError
 use crate::record_error::RecordError;
 use mes_json::NoMemoryAt;
 
-/// Decodes the data of consecutive records, as the bytes arrive, to one value each.
+/// Decodes the data of consecutive records, as the bytes arrive: one value for each record.
 pub trait RecordReader: Drop {
     /// The type of the values.
     type Value: Drop;
@@ -18,7 +18,7 @@ pub trait RecordReader: Drop {
     /// The data represent the value.
     ghost spells: { List ℕ → Self.Value → Type 0 };
 
-    /// The data have no value, for this reason. `NoMemory`: an allocation may fail for these data.
+    /// The data have no value, for the given reason. `NoMemory`: an allocation may fail for them.
     ghost breaks: { List ℕ → Refusal → Type 0 };
 
     /// The number of bytes that the reader buffers.
@@ -27,11 +27,11 @@ pub trait RecordReader: Drop {
     /// The largest number of bytes that the reader buffers of these data.
     ghost room: { List ℕ → ℕ };
 
-    /// Consumes a run of the data.
+    /// Consumes the bytes `run` of a record's data.
     fn push_run(&mut self, bytes: &[u8]) -> Result<(), NoMemoryAt>
         ensures ok { OnOk result ((r : List ℕ) → holds self.old r
             → holds self.new (r ++ bytes.now)) }
-        // On an error: an allocation failed at the byte after `taken` bytes of the run.
+        // On an error: an allocation failed at the byte after `taken` bytes of `run`.
         ensures err { IfErr result (λ refused. 0 < length bytes.now
             → refused.taken < length bytes.now) }
         // An allocation can fail only after data for which `breaks` permits it.

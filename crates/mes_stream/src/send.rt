@@ -1,4 +1,4 @@
-//! Writes events as plain RecordIO or as a chunked stream. `encode.rt` encodes all of them before
+//! Writes events as plain RecordIO or as a chunked stream. `encode.rt` encodes all events before
 //! the first byte is written.
 
 ghost use Rattle.std.specs.Prelude.{ℕ, ◌≤◌, List, OnOk, IfErr};
@@ -9,8 +9,8 @@ use mes_frame::{Limit, MAX_CHUNK, MIN_CHUNK, Sink, write_all, write_chunked};
 use mes_msg::{Event, SendFault};
 use std::alloc::Global;
 
-/// Writes events as a chunked stream: one record of at most `limit` bytes for the canonical JSON of
-/// each event, in chunks of `most` bytes. The last chunk may be shorter.
+/// Writes events as a chunked stream in chunks of `most` bytes; the last chunk may be shorter. Each
+/// event is one record with at most `limit` bytes of canonical JSON.
 pub fn write_stream<W: Sink>(
     alloc: Global,
     writer: &mut W,
@@ -34,8 +34,8 @@ pub fn write_stream<W: Sink>(
     Ok(())
 }
 
-/// Writes events as plain RecordIO: one record of at most `limit` bytes for the canonical JSON of
-/// each.
+/// Writes events as plain RecordIO. Each event is one record with at most `limit` bytes of
+/// canonical JSON.
 pub fn write_plain<W: Sink>(
     alloc: Global,
     writer: &mut W,

@@ -9,8 +9,8 @@ use crate::line::{fault_line, push_number, push_word};
 use arrayvec::ArrayString;
 use mes_msg::SendFault;
 
-/// Replaces `line` with the error of a send, without LF. Events are numbered from 1. A failed
-/// allocation is F13 after 0 bytes. Does not allocate.
+/// Replaces `line` with the error of a send, without LF. The line numbers events from 1, and
+/// reports a failed allocation as F13 after 0 bytes. Does not allocate.
 pub fn send_line(fault: &SendFault, line: &mut ArrayString<MAX_FAULT_LINE>)
     ensures { line.new.bytes ≡ send_text fault.now }
 {

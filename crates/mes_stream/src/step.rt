@@ -10,10 +10,10 @@ use mes_json::NoMemoryAt;
 /// The result of decoding a piece of a stream.
 #[derive(Drop)]
 pub struct Step<V, F = Fault> {
-    /// The number of bytes of the piece used. A record, the stream or an error ends at the last of
-    /// them.
+    /// The number of bytes of the piece used. The last of them ends a record or the stream, or is
+    /// the byte at which an error is detected.
     pub used: usize,
-    /// The meaning of these bytes.
+    /// The meaning of the bytes used.
     pub out: Decoded<V, F>,
 }
 
@@ -22,11 +22,11 @@ pub struct Step<V, F = Fault> {
 pub enum Decoded<V, F = Fault> {
     /// No record ended, and more bytes are needed. A decoder returns this only for a whole piece.
     More,
-    /// The value of the record that ended with the last of them.
+    /// The value of the record that ended with the last byte used.
     Event(V),
-    /// The last of them ended the stream.
+    /// The last byte used ended the stream.
     End,
-    /// An error was detected, or an allocation failed, at the last of them.
+    /// An error was detected, or an allocation failed, at the last byte used.
     Fault(F),
 }
 

@@ -18,8 +18,9 @@ use mes_frame::{Limit, Source};
 use mes_msg::Event;
 use std::alloc::Global;
 
-/// Reads plain RecordIO to the end of the reader, and appends its events to `events`, which keeps
-/// those before an error. Makes at most `max_reads` reads of at most `MAX_READ` bytes each.
+/// Reads plain RecordIO to the end of the reader, and appends its events to `events`. After an
+/// error, `events` has the events before the error. Makes at most `max_reads` reads of at most
+/// `MAX_READ` bytes each.
 pub fn read_plain<S: Source>(
     alloc: Global,
     reader: &mut S,
@@ -39,8 +40,8 @@ pub fn read_plain<S: Source>(
     read_events(alloc, reader, Framing::Plain, limit, max_reads, events)
 }
 
-/// Like [`read_plain`], for a chunked stream, up to the end of its body. The report has the bytes
-/// of the last read after that end.
+/// Like [`read_plain`], for a chunked stream, up to the end of its body. The report contains the
+/// bytes of the last read that follow the end of the body.
 pub fn read_stream<S: Source>(
     alloc: Global,
     reader: &mut S,

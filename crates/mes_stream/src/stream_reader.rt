@@ -26,7 +26,7 @@ use std::convert::Infallible;
 pub enum Framing {
     /// Consecutive records up to the end of the input: plain RecordIO.
     Plain,
-    /// Records in a chunked body, which has an end of its own.
+    /// Records in a chunked body, whose last chunk ends the stream.
     Chunked,
 }
 
@@ -49,8 +49,8 @@ impl<R: RecordReader> StreamReader<R> {
         StreamReader::following(framing, reader, limit, 0)
     }
 
-    /// Like [`new`](Self::new), but after `done` records of any kind: its own are numbered from
-    /// there.
+    /// Like [`new`](Self::new), but `done` records precede the stream: the numbers of its records
+    /// continue after those.
     pub fn following(framing: Framing, reader: R, limit: Limit, done: u64) -> StreamReader<R>
         requires { R.holds reader [] }
         // The state before the first byte, after `done` records.
@@ -67,7 +67,7 @@ impl<R: RecordReader> StreamReader<R> {
     /// Decodes a piece up to the end of a record or of the stream, the first error, or the end of
     /// the piece.
     pub fn next(&mut self, piece: &[u8]) -> Step<R::Value, PackedFault>
-        // Each result, and when, if `w` are the bytes so far and `values` their values.
+        // When each result is returned, if `w` are the bytes so far and `values` their values.
         ensures says { (ahead : ℕ) (framing : FramingValue) (limit : ℕ) (w : List ℕ)
             (values : List R.Value) → StreamRepresents R.holds R.spells ahead self.old framing limit
             w values
@@ -104,7 +104,7 @@ impl<R: RecordReader> StreamReader<R> {
         piece: &[u8],
         values: &mut Vec<R::Value>,
     ) -> Step<Infallible, PackedFault>
-        // Each result, and when; the values of the records before it are appended.
+        // When each result is returned; the values of the records that ended before are appended.
         ensures feeds { (ahead : ℕ) (framing : FramingValue) (limit : ℕ) (w : List ℕ)
             (before : List R.Value) → StreamRepresents R.holds R.spells ahead self.old framing limit
             w before
@@ -170,7 +170,7 @@ impl<R: RecordReader> StreamReader<R> {
     /// Returns the number of buffered bytes of an incomplete record: 0 after the end or an error.
     pub fn held(&self) -> u64
         ensures count { result ≡ held_by_stream R.kept self.now }
-        // The bound: what the reader may buffer of the incomplete record.
+        // The bound: what the reader of records may buffer of the incomplete record.
         ensures most { (ahead : ℕ) (framing : FramingValue) (limit : ℕ) (w : List ℕ)
             (values : List R.Value) → StreamRepresents R.holds R.spells ahead self.now framing limit
             w values
@@ -204,8 +204,7 @@ impl<R: RecordReader> StreamReader<R> {
         }
     }
 
-    // Decodes a piece like `next`, but does not decode the value of a record that
-    // ended.
+    // Decodes a piece like `next`, but does not decode the value of a record that ended.
     fn advance(&mut self, piece: &[u8]) -> Step<(), PackedFault>
         ensures reports { (ahead : ℕ) (framing : FramingValue) (limit : ℕ) (w : List ℕ)
             (values : List R.Value) → StreamRepresents R.holds R.spells ahead self.old framing limit

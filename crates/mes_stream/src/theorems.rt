@@ -26,26 +26,26 @@ use crate::limits::{MAX_COUNT_LINE, MAX_FAULT_LINE, MAX_READ, MAX_REST};
 use crate::record_reader::RecordReader;
 use mes_msg::{Event, message_reading_is_unique};
 
-/// Proves that any bytes have exactly one reading as plain RecordIO: they are a prefix of a stream,
-/// or an error is detected at one of their bytes.
+/// Proves that any bytes have exactly one reading as plain RecordIO: the bytes are a prefix of a
+/// stream, or an error is detected at one of the bytes.
 pub fn plain_reading_is_unique<R: RecordReader>()
-    // At least one, if the data of every record have a value or an error.
+    // At least one reading, if the data of every record have a value or an error.
     ensures some { IsDecided R.spells R.breaks → (ahead limit : ℕ) (w : List ℕ)
         → (reading : PlainReading R.Value) × ReadsPlain R.spells R.breaks ahead limit w reading }
-    // At most one, if the data of no record have two values or errors.
+    // At most one reading, if the data of no record have two values or errors.
     ensures one { IsExact R.spells R.breaks
         → (ahead limit : ℕ) (w : List ℕ) (reading other : PlainReading R.Value)
         → ReadsPlain R.spells R.breaks ahead limit w reading
         → ReadsPlain R.spells R.breaks ahead limit w other → reading ≡ other }
 {}
 
-/// Proves that any bytes have exactly one reading as a chunked stream: they are a prefix of a
-/// stream, they begin with a whole stream, or an error is detected at one of their bytes.
+/// Proves that any bytes have exactly one reading as a chunked stream: the bytes are a prefix of a
+/// stream, the bytes begin with a whole stream, or an error is detected at one of the bytes.
 pub fn stream_reading_is_unique<R: RecordReader>()
-    // At least one, if the data of every record have a value or an error.
+    // At least one reading, if the data of every record have a value or an error.
     ensures some { IsDecided R.spells R.breaks → (ahead limit : ℕ) (w : List ℕ)
         → (reading : StreamReading R.Value) × ReadsStream R.spells R.breaks ahead limit w reading }
-    // At most one, if the data of no record have two values or errors.
+    // At most one reading, if the data of no record have two values or errors.
     ensures one { IsExact R.spells R.breaks
         → (ahead limit : ℕ) (w : List ℕ) (reading other : StreamReading R.Value)
         → ReadsStream R.spells R.breaks ahead limit w reading
@@ -61,13 +61,13 @@ pub fn chunking_is_irrelevant<R: RecordReader>()
     // The chunking of a prefix of a stream does not change its values.
     ensures live { (limit : ℕ) (w v body : List ℕ) (values : List R.Value) → IsOpen w body
         → IsOpen v body → Live R.spells limit w values → Live R.spells limit v values }
-    // Two chunkings of a whole body have the same values, and the same error of its records.
+    // Two chunkings of a whole body have the same values, and the same error in a record.
     ensures whole { IsExact R.spells R.breaks
         → (ahead limit : ℕ) (w v body : List ℕ) (reading other : StreamReading R.Value)
         → IsChunked w body → IsChunked v body
         → ReadsStream R.spells R.breaks ahead limit w reading
         → ReadsStream R.spells R.breaks ahead limit v other → IsAlike reading other }
-    // Two chunkings of a prefix of a body have the same values, and the same error of its records.
+    // Two chunkings of a prefix of a body have the same values, and the same error in a record.
     ensures front { IsExact R.spells R.breaks
         → (ahead limit : ℕ) (w v body : List ℕ) (reading other : StreamReading R.Value)
         → IsOpen w body → IsOpen v body
@@ -99,7 +99,7 @@ pub fn event_reading_is_unique()
     ensures one_stream { (limit : ℕ) (w : List ℕ) (reading other : StreamReading EventValue)
         → ReadsStream Spells IsEventRefusal 0 limit w reading
         → ReadsStream Spells IsEventRefusal 0 limit w other → reading ≡ other }
-    // The chunking of a body changes neither its events nor the error of its records.
+    // The chunking of a body changes neither its events nor the error in a record.
     ensures one_body { (limit : ℕ) (w v body : List ℕ) (reading other : StreamReading EventValue)
         → IsChunked w body → IsChunked v body
         → ReadsStream Spells IsEventRefusal 0 limit w reading
@@ -117,8 +117,8 @@ pub fn event_reading_is_unique()
 }
 
 /// Proves that the result of `read_stream` depends neither on the chunking of a body nor on the
-/// sizes of the reads: it has the same events, and the same end or error. The condition: no read
-/// and no allocation fails, and the reads suffice.
+/// sizes of the reads: the events, and the end or error, are the same. The condition: no read and
+/// no allocation fails, and the reads suffice.
 pub fn one_answer()
     // Two chunkings of a body: the same events, and the same end or error.
     ensures body { (limit : ℕ) (w v body : List ℕ) (events others : List EventValue)

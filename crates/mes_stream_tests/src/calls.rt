@@ -1,4 +1,4 @@
-//! Number of reads of a device that fills each read.
+//! The number of reads, if the device fills each read.
 
 use crate::support::{chunks_and, read, row_of};
 use mes_frame::MemorySource;
@@ -7,16 +7,16 @@ use std::alloc::{AllocGlobal, Global};
 use std::process::Abort;
 use std::test::Fail;
 
-// The number of chunks and what follows them. Then the end, the bytes used, the bytes of the
-// stream, and the number of reads: one for each 512 bytes begun, since a stream's last byte shows
-// its end.
+// Each row: the number of chunks, the text after them, and the outcome: the end, the bytes used,
+// the bytes of the stream, and the number of reads. One read is made for each 512 bytes begun, and
+// none to detect the end, because the last chunk ends the stream.
 const WHOLE: &str = "0:0|| => end after 5 of 5, asked 1
 17:0;aaaaaaaaaaaaa|| => end after 512 of 512, asked 1
 17:0;aaaaaaaaaaaaaa|| => end after 513 of 513, asked 2
 35:0;aaa|| => end after 1024 of 1024, asked 2
 35:0;aaaa|| => end after 1025 of 1025, asked 3";
 
-// Streams that break off: one more read finds the end of the device.
+// Streams that end early: one more read detects the end of the device.
 const BROKEN: &str = "0: => F6 EndsInsideChunks after 0 of 0, asked 1
 1: => F6 EndsInsideChunks after 29 of 29, asked 2
 17: => F6 EndsInsideChunks after 493 of 493, asked 2

@@ -1,5 +1,5 @@
-//! Tests of the crates `mes_stream` and `mesosev_stream` through their public functions: worked
-//! examples, and streams that are cut, break off or fail.
+//! Tests of the crate `mes_stream` through its public functions: worked examples, and streams that
+//! arrive in pieces, end early or fail.
 #![tactic(auto)]
 
 #[cfg(test)]

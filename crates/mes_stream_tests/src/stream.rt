@@ -15,7 +15,7 @@ mod send;
 
 const ERROR: &[u8] = b"40\n{\"type\":\"ERROR\",\"error\":{\"message\":\"m\"}}";
 
-// Reading `ERROR` must succeed and give its event.
+// Reading `ERROR` must succeed and return the event in it.
 fn expect_error<R: Abort>(
     rt: &R,
     end: &Result<Report, Stop>,
@@ -33,7 +33,7 @@ fn expect_error<R: Abort>(
     Ok(())
 }
 
-// 44 reads are enough.
+// The record has 43 bytes: with one byte for each read, 44 reads are enough.
 fn expect_whole<R: Abort + AllocGlobal>(rt: &R) -> Result<(), Fail> {
     let mut events = Vec::new(rt.alloc());
     let mut source = MemorySource::new(ERROR, 1);
@@ -44,7 +44,7 @@ fn expect_whole<R: Abort + AllocGlobal>(rt: &R) -> Result<(), Fail> {
     reported
 }
 
-// At one byte a read, 43 bytes need 43 reads, and the end one more.
+// With one byte for each read, the 43 bytes need 43 reads, and the end needs one more.
 #[test]
 fn reads_are_counted(rt: HostRuntime) -> Result<(), Fail> {
     for max_reads in 0..44 {
@@ -62,7 +62,7 @@ fn decoder(alloc: Global) -> Decoder {
     Decoder::new(alloc, Limit::USUAL)
 }
 
-// For an error, its number and name.
+// Returns the name of a result; for an error, its number and name.
 fn name_of(out: &Decoded<Event>) -> &'static str {
     match out {
         Decoded::More => "more",
@@ -183,7 +183,8 @@ fn found_in_bytes(alloc: Global, stream: &[u8]) -> Result<String, Fail> {
     Ok(found)
 }
 
-// The results must be the same in each cut into two pieces, and in pieces of one byte.
+// The results must be the same for each cut of the stream into two pieces, and for pieces of one
+// byte.
 fn expect<R: Abort + AllocGlobal>(rt: &R, stream: &[u8], answers: &str) -> Result<(), Fail> {
     for cut in 0..stream.len() {
         let (front, rest) = stream.split_at(cut);
@@ -203,8 +204,8 @@ fn expect_row<R: Abort + AllocGlobal>(rt: &R, row: &str) -> Result<(), Fail> {
     reported
 }
 
-// Streams, and their results except `more`, each with the number of bytes used. Without an end or
-// an error, `more` and the outcome of the end of the input follow.
+// Each row: a stream, and the results of decoding it except `more`, each with the number of bytes
+// used. Without an end or an error, `more` and the outcome of the end of the input follow.
 const STREAMS: &str =
     r#"33|20~{"type":"HEARTBEAT"}20~{"type":"HEARTBEAT"}20~{" => HEARTBEAT 27;HEARTBEAT 50;more 55;F6 EndsInsideChunks 55;
 2|5~|0|| => F10 EndsInsideRecord 12;
@@ -265,7 +266,7 @@ fn expect_bytes<R: Abort>(rt: &R, decoder: &mut Decoder, stream: &[u8]) {
     assert_eq!(rt; reported(decoder, b"more"), ("end", 0));
 }
 
-// One byte a piece.
+// Pieces of one byte.
 #[test]
 fn a_stream_is_read_byte_by_byte(rt: HostRuntime) {
     assert_eq!(rt; HEARTBEAT_BY_BYTES.len(), 143);

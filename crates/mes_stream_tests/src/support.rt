@@ -1,6 +1,6 @@
 //! Helpers of the tests of streams.
 //!
-//! In a table `|` represents CR LF and `~` LF.
+//! In a table of tests `|` represents CR LF and `~` LF.
 
 use mes_frame::{Limit, MemorySource};
 use mes_msg::Event;
@@ -26,14 +26,14 @@ pub(crate) fn heartbeats(alloc: Global, count: usize) -> Result<Vec<u8>, Fail> {
     Ok(HEARTBEAT.repeat(alloc, count)?)
 }
 
-/// Returns `count` chunks of `HEARTBEAT`, followed by the text of a table.
+/// Returns `count` chunks of `HEARTBEAT`, followed by a text from a table of tests.
 pub(crate) fn chunks_and(alloc: Global, count: usize, last: &str) -> Result<Vec<u8>, Fail> {
     let mut stream = CHUNK.repeat(alloc, count)?;
     push_text(&mut stream, last)?;
     Ok(stream)
 }
 
-/// Splits a row into its two sides.
+/// Splits a row of a table of tests at ` => `.
 pub(crate) fn row_of(line: &str) -> Result<(&str, &str), Fail> {
     Ok(line.split_once(" => ").ok_or("a row has two sides")?)
 }
@@ -49,7 +49,7 @@ fn push_text(bytes: &mut Vec<u8>, text: &str) -> Result<(), Fail> {
     Ok(())
 }
 
-/// Converts a text of a table into bytes.
+/// Converts a text from a table of tests into bytes.
 pub(crate) fn bytes_of(alloc: Global, text: &str) -> Result<Vec<u8>, Fail> {
     let mut bytes = Vec::new(alloc);
     push_text(&mut bytes, text)?;
@@ -97,8 +97,8 @@ pub(crate) fn read(
     came
 }
 
-/// Reads a stream at one byte a read. Returns the end or the error, the bytes used, and the number
-/// of reads.
+/// Reads a stream with one byte for each read. Returns the end or the error, the number of bytes
+/// used, and the number of reads.
 pub(crate) fn read_by_bytes(
     alloc: Global,
     framing: Framing,
@@ -110,7 +110,7 @@ pub(crate) fn read_by_bytes(
     (end, used, source.counts().calls)
 }
 
-/// The text of these bytes, so that a failure prints it.
+/// Returns the bytes as text, so that a failed test prints the text.
 pub(crate) fn as_text(bytes: &[u8]) -> Option<&str> {
     str::from_utf8(bytes).ok()
 }

@@ -1,4 +1,4 @@
--- The effect of arguments without options.
+-- The effect of arguments with which no subcommand is performed.
 use Rattle.std.proofs.Common.{◌≡◌, ℕ, List, inl, inr, refl, subst}
 use Rattle.clap.specs.Words.{Text}
 use Rattle.mes_frame.specs.Devices.{Device}

@@ -1,4 +1,4 @@
--- The text printed for arguments without options to perform.
+-- The text printed for arguments with which no subcommand is performed.
 use Rattle.std.specs.Prelude.{◌≡◌, ◌≢◌, ℕ, ◌⊎◌, List, [], ◌∷◌, ◌++◌, codes}
 use Rattle.clap.specs.Words.{kind_of}
 use Rattle.clap.specs.declared.error.Error.{Error}
@@ -14,17 +14,17 @@ use Rattle.mesosev_args.specs.declared.args.WordsFault.TheVariants.{Clap, BadVal
 abbrev pub IsMistake : Error → Type 0
 IsMistake error = (kind_of error ≢ DisplayHelp) × (kind_of error ≢ DisplayVersion)
 
--- a usage error was printed to standard error, or help to standard output
+-- a usage error was printed to standard error, or help or the version to standard output
 abbrev pub ReportsError : Error → Device → Device → Device → Device → RunOutcome → Type 0
 ReportsError error out printed err reported ended =
     (text : List ℕ) × ((IsMistake error × Prints err reported text exit.Usage ended × (printed ≡ out))
     ⊎ (¬ (IsMistake error) × Prints out printed text exit.Success ended × (reported ≡ err)))
 
--- the line for an option without a value in its range
+-- the line for a command-line option whose value is out of range
 abbrev pub bad_value_line : List ℕ → List ℕ
 bad_value_line option = codes "bad value --" ++ (option ++ 10 ∷ [])
 
--- the reason for which there are no options was printed
+-- the reason for which the arguments have no options was printed
 abbrev pub Reports : WordsFault → Device → Device → Device → Device → RunOutcome → Type 0
 Reports (Clap error) out printed err reported ended =
     ReportsError error out printed err reported ended ⊎ (LacksMemory out printed ended × (reported ≡ err))

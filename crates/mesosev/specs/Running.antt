@@ -28,7 +28,7 @@ status_number exit.Success = 0
 status_number exit.Fault = 1
 status_number exit.Usage = 2
 
--- the options were performed; only `convert` and `relog` write to standard error
+-- the subcommand was performed with its options; only `convert` and `relog` write to standard error
 abbrev pub Performs : Options → Device → Device → Device → Device → Device → Device → RunOutcome → Type 0
 Performs (Check framing limit) input rest out printed err reported ended = Checks framing limit MAX_READS input rest out printed ended × (reported ≡ err)
 Performs (Show framing limit) input rest out printed err reported ended = Shows framing limit MAX_READS input rest out printed ended × (reported ≡ err)
@@ -42,14 +42,14 @@ Performs (Subscribe to user name reads) input rest out printed err reported ende
     Subscribes to user name reads out printed ended × (rest ≡ input) × (reported ≡ err)
 Performs (Loopback most) input rest out printed err reported ended = Loops most input rest out printed ended × (reported ≡ err)
 
--- the options were performed, or an allocation failed
+-- the subcommand was performed with its options, or an allocation failed
 abbrev pub PerformsSaid : Options → Device → Device → Device → Device → Device → Device → RunOutcome → Type 0
 PerformsSaid options input rest out printed err reported ended =
     Performs options input rest out printed err reported ended ⊎ (LacksMemory out printed ended × (reported ≡ err))
 
--- The options of the arguments were performed; or clap's error was printed; or an option has no
--- value in its range, which was printed; or an allocation failed. Devices that a case does not
--- mention are unchanged.
+-- The subcommand was performed with the options of the arguments; or clap's error was printed; or
+-- the value of a command-line option is out of range, and this error was printed; or an allocation
+-- failed. Devices that a case does not mention are unchanged.
 abbrev pub Runs : List Text → Device → Device → Device → Device → Device → Device → RunOutcome → Type 0
 Runs words input rest out printed err reported ended =
     ((options : Options) × (fault_of command_app words ≡ []) × NameOptions words options × IsInRange options
@@ -60,10 +60,11 @@ Runs words input rest out printed err reported ended =
     × Prints err reported (bad_value_line option) exit.Usage ended × (printed ≡ out) × (rest ≡ input))
     ⊎ (LacksMemory out printed ended × (reported ≡ err) × (rest ≡ input))
 
--- standard error is unchanged
+-- `Does` holds for the outcome, and standard error is unchanged
 abbrev pub LeavesError : (RunOutcome → Type 0) → Device → Device → RunOutcome → Type 0
 LeavesError Does err reported ended = Does ended × (reported ≡ err)
 
--- `Does` holds up to some state of standard error; then the line of a failed output follows there
+-- `Does` holds for some state of standard error, after which the line of a failed output, if any,
+-- was printed to standard error
 abbrev pub Ends : (Device → RunOutcome → Type 0) → Bool → Device → ExitStatus → Type 0
 Ends Does closed last status = (reported : Device) × (ended : RunOutcome) × Does reported ended × Finishes closed reported last ended status

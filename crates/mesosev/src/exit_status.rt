@@ -1,5 +1,5 @@
-//! The exit status of the command: the one place that numbers it. `run.rt` returns an `ExitStatus`:
-//! `Usage` if the arguments are wrong, else what the subcommand came to (`mesosev_stream::finish`).
+//! The number of each exit status. `run.rt` returns the `ExitStatus`: `Usage` if the arguments are
+//! invalid, otherwise the status of the subcommand (`mesosev_stream::finish`).
 
 ghost use Rattle.std.specs.Prelude.{◌≡◌};
 ghost use Rattle.std.specs.Process.{exit_status};

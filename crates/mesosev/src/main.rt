@@ -1,6 +1,6 @@
 //! The program `mesosev`: decodes, prints and encodes event streams of the Apache Mesos v1
-//! scheduler API. `exit_status.rt` numbers its exit status. `run.rt` has the command over any
-//! devices, the crates `mesosev_*` its subcommands.
+//! scheduler API. `run.rt` runs the command over any devices, `exit_status.rt` has the numbers of
+//! the exit status, and the crates `mesosev_*` have the subcommands.
 #![tactic(auto)]
 
 mod exit_status;
@@ -47,9 +47,9 @@ fn run_process(rt: &HostRuntime) -> ExitStatus {
     run(rt, words.as_slice(), &mut input, &mut out, &mut err)
 }
 
-/// Opens `/` if a standard stream is closed, so that the file gets its number. Otherwise a socket
-/// could get that number, and the output would go to its peer. A directory can be neither read nor
-/// written, so that the stream still fails.
+/// Opens `/`: if a standard stream is closed, the directory gets the number of the stream's file
+/// descriptor. Otherwise a socket could get that number, and output would go to the socket's peer.
+/// A directory can be neither read nor written, so that the standard stream still fails.
 fn take_place(rt: &HostRuntime) -> Option<File> {
     File::open(rt, "/").ok()
 }

@@ -1,4 +1,4 @@
-//! The command over any devices: arguments, input and outputs.
+//! The command over any devices: parses the arguments, and performs the subcommand.
 
 ghost use Rattle.mes_frame.specs.Devices.{device_of};
 ghost use Rattle.std.specs.Prelude.{◌≡◌, codes, ◌⊎◌, false, map};
@@ -36,7 +36,7 @@ const NOT_TEXT: &str = "error: a word is not UTF-8\n";
 /// - `Fault`: an error was printed, or an output failed.
 /// - `Usage`: the arguments are invalid.
 ///
-/// A failed output is printed to `err`, unless the output is closed.
+/// If an output fails, prints a line to `err`, unless the output is closed.
 pub fn run<R, W: AsStr, I: Source, O: Sink, E: Sink>(
     rt: &R,
     words: &[W],
@@ -46,14 +46,15 @@ pub fn run<R, W: AsStr, I: Source, O: Sink, E: Sink>(
 ) -> ExitStatus
 where
     R: AllocGlobal + Net<Listener = TcpListener, Stream = TcpStream>,
-    // The effect of the arguments, the line of a failed output, and the status.
+    // The effect of the subcommand, the line of a failed output, and the status.
     ensures runs { Ends (Runs (map W.text words.now)
         (device_of I.left I.counts input.old) (device_of I.left I.counts input.new)
         (output_of O.written O.counts out.old) (output_of O.written O.counts out.new)
         (device_of E.written E.counts err.old))
         out.new.closed (device_of E.written E.counts err.new) result }
 
-    // Arguments in the plain form: their options are performed, unless an allocation fails.
+    // If the arguments have their options in order, each at most once: the subcommand is
+    // performed, unless an allocation fails.
     ensures plain { (said : OptionsValue) → SayPlainly (map W.text words.now) said → IsInRange said
         → Ends (PerformsSaid said
         (device_of I.left I.counts input.old) (device_of I.left I.counts input.new)
@@ -61,8 +62,8 @@ where
         (device_of E.written E.counts err.old))
         out.new.closed (device_of E.written E.counts err.new) result }
 
-    // The defaults and ranges of the options. Other limits are stated in the crates that define
-    // them.
+    // The defaults and ranges of the command-line options. The crates that define other limits
+    // state them.
     ensures limit { DEFAULT_LIMIT.now ≡ codes "4194304" }
     ensures port { (MIN_PORT ≡ 1) × (MAX_PORT ≡ 65535) }
     ensures count { (MIN_CONNECTIONS ≡ 1) × (MAX_CONNECTIONS ≡ 1000) }
@@ -91,7 +92,8 @@ where
         (device_of E.written E.counts err.old) (device_of E.written E.counts err.new)
         result }
 
-    // Arguments in the plain form.
+    // If the arguments have their options in order, each at most once: the subcommand is
+    // performed, unless an allocation fails.
     ensures plain { (said : OptionsValue) → SayPlainly (map W.text words.now) said → IsInRange said
         → PerformsSaid said
         (device_of I.left I.counts input.old) (device_of I.left I.counts input.new)
@@ -152,7 +154,7 @@ where
     }
 }
 
-// Follows the input with `MAX_READS` reads.
+// Performs `check` or `show` with at most `MAX_READS` reads of the input.
 fn follow_all<I: Source, O: Sink>(
     alloc: Global,
     detail: Detail,
@@ -188,7 +190,8 @@ pub(crate) fn end_without_text<E: Sink>(err: &mut E) -> ExitStatus
     finish(ended, false, err)
 }
 
-/// Prints the usage error.
+/// Prints the reason for which the arguments have no options: clap's result, a value that is out of
+/// range, or a failed allocation.
 fn tell<O: Sink, E: Sink>(alloc: Global, fault: &WordsFault, out: &mut O, err: &mut E) -> RunOutcome
     ensures { Reports fault.now
         (device_of O.written O.counts out.old) (device_of O.written O.counts out.new)
@@ -205,7 +208,7 @@ fn tell<O: Sink, E: Sink>(alloc: Global, fault: &WordsFault, out: &mut O, err: &
     }
 }
 
-/// Prints a result of clap: help to `out`, a usage error to `err`.
+/// Prints clap's result: help or the version to `out`, a usage error to `err`.
 fn report_error<O: Sink, E: Sink>(
     alloc: Global,
     error: &clap::Error,

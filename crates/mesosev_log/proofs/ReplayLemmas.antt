@@ -1,4 +1,4 @@
--- The entries replayed and written, stated of the devices.
+-- The effect of `replay` and `relog` on the devices, from the contracts of reading and writing.
 use Rattle.std.proofs.Common.{◌≡◌, ℕ, ◌⊎◌, ◌∷◌, ◌++◌, [], Option, List, Result, ap, ◌∙◌, subst, sym, inl, inr, refl}
 use Rattle.std.specs.Io.KnownBytes.{Consumes}
 use Rattle.mes_frame.specs.Devices.{Device, device_of}
@@ -20,7 +20,7 @@ use Rattle.mesosev_stream.specs.declared.limits.TheConstants.{MAX_READS}
 use Rattle.mesosev_log.specs.Replaying.{ReadsLogInput, ReplaysRead, Replays}
 use Rattle.mesosev_log.specs.Relogging.{RelogsRead, Relogs, WritesLog}
 
--- the list was empty before, so it has exactly the entries read
+-- the list was empty before the reads, so that it has exactly the entries that were read
 pub read_all : (limit : ℕ) (input rest : Device) (before entries : List Entry) (outcome : Result Report Stop) → before ≡ []
     → ((w : List ℕ) × (more : List Entry) × Consumes input.bytes rest.bytes w × (entries ≡ before ++ more) × EndsLog limit MAX_READS input.counts rest.counts rest.bytes w more outcome)
     → (w : List ℕ) × ReadsLogInput limit input rest w entries outcome

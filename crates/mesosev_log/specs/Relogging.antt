@@ -22,13 +22,13 @@ WritesLog limit entries out written err reported status =
     ⊎ ((fault : SendFault) × StopsLog {W = Device} (λ d. d.bytes) (λ d. d.counts) limit entries out written fault
     × Tells err reported (send_text fault ++ 10 ∷ []) × (status ≡ exit.Fault))
 
--- the effect of the entries read: written, if the log ended; otherwise its error was printed
+-- the entries that were read were written, if the log ended; otherwise the error was printed
 abbrev pub RelogsRead : ℕ → List Entry → Result Report Stop → Device → Device → Device → Device → ExitStatus → Type 0
 RelogsRead limit entries (Ok report) out written err reported status = WritesLog limit entries out written err reported status
 RelogsRead limit entries (Err stop) out written err reported status =
     (written ≡ out) × Tells err reported (fault_text stop.fault stop.used ++ 10 ∷ []) × (status ≡ exit.Fault)
 
--- the bytes w were read as these entries with this result, and `RelogsRead` holds of them
+-- some bytes w were read from the input, with some entries and result for which `RelogsRead` holds
 abbrev pub Relogs : ℕ → Device → Device → Device → Device → Device → Device → ExitStatus → Type 0
 Relogs limit input rest out written err reported status =
     (w : List ℕ) × (entries : List Entry) × (outcome : Result Report Stop) × ReadsLogInput limit input rest w entries outcome

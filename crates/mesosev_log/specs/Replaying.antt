@@ -16,24 +16,25 @@ use Rattle.mesosev_stream.specs.declared.exit_status.ExitStatus.TheVariants as e
 use Rattle.mesosev_stream.specs.declared.outcome.RunOutcome.{RunOutcome}
 use Rattle.mesosev_stream.specs.declared.limits.TheConstants.{MAX_READS}
 
--- the bytes w were read as these entries of a log, with this result
+-- the bytes w were read from the input, with the given entries of a log and the given result
 abbrev pub ReadsLogInput : ℕ → Device → Device → List ℕ → List Entry → Result Report Stop → Type 0
 ReadsLogInput limit input rest w entries outcome = Consumes input.bytes rest.bytes w × EndsLog limit MAX_READS input.counts rest.counts rest.bytes w entries outcome
 
--- The report of the session was printed, or that no memory was left for it. Or an entry is the
--- first that cannot be applied (a refused call, or an allocation failed), and that was printed.
+-- The report of the session was printed, or that an allocation for the report failed. Or an entry
+-- is the first that cannot be applied (a call is refused, or an allocation failed), and the reason
+-- was printed.
 abbrev pub ReplaysEntries : List Entry → Device → Device → RunOutcome → Type 0
 ReplaysEntries entries out printed ended =
     ((held : Held) × IsLegal entries × Represents entries held
     × (Prints out printed (report_text (length entries) held) exit.Success ended ⊎ LacksMemory out printed ended))
     ⊎ ((before : ℕ) × (refusal : Refusal) × StopsAt entries before refusal × Prints out printed (refusal_text refusal before ++ 10 ∷ []) exit.Fault ended)
 
--- the effect of the entries read: replayed, if the log ended; otherwise its error was printed
+-- the entries that were read were replayed, if the log ended; otherwise the error was printed
 abbrev pub ReplaysRead : List Entry → Result Report Stop → Device → Device → RunOutcome → Type 0
 ReplaysRead entries (Ok report) out printed ended = ReplaysEntries entries out printed ended
 ReplaysRead entries (Err stop) out printed ended = Prints out printed (fault_text stop.fault stop.used ++ 10 ∷ []) exit.Fault ended
 
--- the bytes w were read as these entries with this result, and `ReplaysRead` holds of them
+-- some bytes w were read from the input, with some entries and result for which `ReplaysRead` holds
 abbrev pub Replays : ℕ → Device → Device → Device → Device → RunOutcome → Type 0
 Replays limit input rest out printed ended =
     (w : List ℕ) × (entries : List Entry) × (outcome : Result Report Stop) × ReadsLogInput limit input rest w entries outcome

@@ -8,7 +8,7 @@
 //!     let outcome = replay(alloc, limit, input, out);
 //!     let status = finish(outcome, out.is_closed(), err);
 //!
-//! `mes_session` has the session itself. The tests run the program: see `tests/`.
+//! The crate `mes_session` defines the session. The tests run the program: see `tests/`.
 
 mod relogging;
 mod replaying;

@@ -17,7 +17,7 @@ use std::alloc::Global;
 
 /// Reads a session log of either version to its end, and prints the report of its session. Buffers
 /// all entries. If the log has an error, a call in it is refused, or an allocation fails, prints
-/// one line with that; the status is `Fault`.
+/// one line with that error; the status is `Fault`.
 pub fn replay<I: Source, O: Sink>(
     alloc: Global,
     limit: Limit,

@@ -1,4 +1,4 @@
--- The events read, and their effect.
+-- `Given` holds for the events that were read from the input.
 use Rattle.std.proofs.Common.{◌≡◌, ◌∙◌, ◌++◌, ap, ℕ, List, [], ◌∷◌, Result, Ok, Err, refl, subst, sym}
 use Rattle.std.specs.Prelude.{MatchResult}
 use Rattle.std.specs.Io.KnownBytes.{Consumes}
@@ -16,7 +16,7 @@ use Rattle.mes_stream.specs.declared.fault.Report.{Report}
 use Rattle.mes_stream.specs.declared.fault.Stop.{Stop}
 
 module _ (Does : List Event → Type 0) (input rest out printed : Device) (ended : RunOutcome) (old new : List Event) (r : Result Report Stop) where
-  -- the input was read, and its events are in the list
+  -- the input was read, and its events were appended to the list `old`, which became `new`
   abbrev pub Reads : Type 0
   Reads = (w : List ℕ) × (more : List Event) × Consumes input.bytes rest.bytes w × (new ≡ old ++ more)
       × EndsPlain DEFAULT_RECORD_LIMIT MAX_READS input.counts rest.counts rest.bytes w more r

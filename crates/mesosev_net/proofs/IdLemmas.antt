@@ -1,4 +1,4 @@
--- Consecutive stream ids.
+-- Lemmas about lists of consecutive stream ids.
 use Rattle.std.proofs.Common.{◌≡◌, ◌∙◌, ap, arith, ℕ, List, [], ◌∷◌, ◌++◌, ◌+◌, refl, suc}
 use Rattle.uuid.specs.Text.{by_index}
 

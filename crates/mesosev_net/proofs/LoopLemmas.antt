@@ -1,4 +1,4 @@
--- The bytes of some socket, printed.
+-- The outcome of `subscribe` and `loopback`, from what was sent and printed over some socket.
 use Rattle.std.proofs.Common.{◌≡◌, ◌∙◌, ◌⊎◌, ap, inl, inr, refl, Bool, true, false, ℕ, List, Result, subst}
 use Rattle.mes_msg.specs.Event.{Event}
 use Rattle.mes_frame.specs.Devices.{Device}
@@ -49,7 +49,7 @@ looped first most given before input rest writer written out dropped later r who
   is = is;
 }
 
--- the outcome if the whole response was written
+-- the outcome of `loopback` if the whole response was written
 pub answered : (first : List ℕ) (most : ℕ) (given : List Event) (before : MasterState) (input rest writer written out dropped : Device) (later : MasterState) (r : Result Served WriteFault)
     (reported printed : Device) (ended : RunOutcome) → before ≡ new_master test_framework (ids_from first 1) → is_whole r ≡ true
     → ServesOne before given most input rest writer written out dropped later r → ShowsSome reported printed ended ⊎ LacksMemory reported printed ended
@@ -58,7 +58,7 @@ answered first most given before input rest writer written out dropped later r r
     inl (looped first most given before input rest writer written out dropped later r true same is serves, shows)
 answered first most given before input rest writer written out dropped later r reported printed ended same is serves (inr lacks) = inr (inr lacks)
 
--- the outcome if it was not
+-- the outcome of `loopback` if the response was not written completely
 pub unanswered : (first : List ℕ) (most : ℕ) (given : List Event) (before : MasterState) (input rest writer written out dropped : Device) (later : MasterState) (r : Result Served WriteFault)
     (reported printed : Device) (ended : RunOutcome) → before ≡ new_master test_framework (ids_from first 1) → is_whole r ≡ false
     → ServesOne before given most input rest writer written out dropped later r → Prints reported printed write_failed_line exit.Fault ended ⊎ LacksMemory reported printed ended
@@ -67,9 +67,9 @@ unanswered first most given before input rest writer written out dropped later r
     inr (inl (looped first most given before input rest writer written out dropped later r false same is serves, prints))
 unanswered first most given before input rest writer written out dropped later r reported printed ended same is serves (inr lacks) = inr (inr lacks)
 
--- ---- the SUBSCRIBE
+-- ---- the outcome of `loopback`, from that of sending SUBSCRIBE
 
--- the outcome if SUBSCRIBE was sent
+-- the outcome of `loopback` if SUBSCRIBE was sent
 pub sent_some : (info : FrameworkInfo) (host : List ℕ) (writer written : Device) (first : List ℕ) (most : ℕ) (given : List Event) (reported printed : Device) (ended : RunOutcome)
     → info ≡ loopback_framework → host ≡ loopback_host → SentSubscribe info host writer written → AnswersLoop first most given reported printed ended
     → LoopsEvents first most given reported printed ended
@@ -83,7 +83,7 @@ sent_some info host writer written first most given reported printed ended same 
       answers,
     )
 
--- the outcome if SUBSCRIBE was not sent
+-- the outcome of `loopback` if SUBSCRIBE was not sent
 pub stopped_some : (info : FrameworkInfo) (host : List ℕ) (writer written : Device) (first : List ℕ) (most : ℕ) (given : List Event) (fault : SendFault) (reported printed : Device) (ended : RunOutcome)
     → info ≡ loopback_framework → host ≡ loopback_host → StopsSubscribe info host writer written fault → ReportsUnsent fault reported printed ended
     → LoopsEvents first most given reported printed ended

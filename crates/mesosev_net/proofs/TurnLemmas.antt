@@ -1,4 +1,4 @@
--- Connections that are served one after the other.
+-- Lemmas about `Turned`: connections that are served one after the other.
 use Rattle.std.proofs.Common.{◌≡◌, ℕ, ◌+◌, List, Result, Ok, arith, inr, refl, suc, subst}
 use Rattle.mes_msg.specs.Event.{Event}
 use Rattle.mes_frame.specs.Devices.{Device}

@@ -1,4 +1,4 @@
--- The events given to a test master, and the frameworks.
+-- The events given to a test master, and the frameworks of the test master and the scheduler.
 use Rattle.std.specs.Prelude.{◌≡◌, ℕ, List, [], ◌∷◌, ◌++◌, Option, None, Result, MatchResult, codes}
 use Rattle.mes_msg.specs.Event.{Event}
 use Rattle.mes_frame.specs.Devices.{Device}
@@ -14,7 +14,7 @@ use Rattle.mes_stream.specs.declared.fault.Report.{Report}
 use Rattle.mes_stream.specs.declared.fault.Stop.{Stop}
 use Rattle.mes_stream.specs.declared.stream_reader.Framing.TheVariants.{Plain}
 
--- the input was read as plain RecordIO, and `Does` holds of its events; or its error was printed
+-- the input was read as plain RecordIO, and `Does` holds for its events; or its error was printed
 abbrev pub Given : (List Event → Type 0) → Device → Device → Device → Device → RunOutcome → Type 0
 Given Does input rest out printed ended =
     (w : List ℕ) × (events : List Event) × (outcome : Result Report Stop)
@@ -25,7 +25,7 @@ Given Does input rest out printed ended =
 abbrev pub test_framework : Id
 test_framework = record { value = codes "F1" }
 
--- a framework with only this user and name
+-- a framework with only the given user and name
 abbrev pub plain_framework : List ℕ → List ℕ → FrameworkInfo
 plain_framework user name = record {
   user = user;

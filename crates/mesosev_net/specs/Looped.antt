@@ -21,11 +21,11 @@ use Rattle.mesosev_serve.specs.Lines.{write_failed_line}
 use Rattle.mesosev_serve.specs.Subscribing.{SentSubscribe, StopsSubscribe, ShowsAnswer, ReportsUnsent}
 use Rattle.mesosev_serve.specs.declared.connection.Served.{Served}
 
--- the id of the stream
+-- the id of the stream in `loopback`
 abbrev pub loopback_stream : List ℕ
 loopback_stream = to_be_bytes w128 LOOPBACK_STREAM
 
--- the subscribing framework, and the host in its request
+-- the subscribing framework, and the host in the request of that framework
 abbrev pub loopback_framework : FrameworkInfo
 loopback_framework = plain_framework (codes "root") (codes "loopback")
 
@@ -38,18 +38,19 @@ pub record SendsSome : Type 0 where
   pub written : Device
   pub sends : SentSubscribe loopback_framework loopback_host writer written
 
--- SUBSCRIBE was not written, for this reason
+-- SUBSCRIBE was not written to some socket, for the reason `fault`
 pub record StopsSome (fault : SendFault) : Type 0 where
   pub writer : Device
   pub written : Device
   pub stops : StopsSubscribe loopback_framework loopback_host writer written fault
 
--- whether the whole response was written
+-- true if the whole response was written
 abbrev pub is_whole : Result Served WriteFault → Bool
 is_whole (Ok served) = served.answered
 is_whole (Err fault) = false
 
--- a new test master served a connection without printing, and the response was whole or not
+-- a new test master served a connection; `whole` is true, if and only if the whole response was
+-- written
 pub record ServesLoop (first : List ℕ) (most : ℕ) (given : List Event) (whole : Bool) : Type 0 where
   pub out : Device
   pub dropped : Device
@@ -64,7 +65,8 @@ pub record ShowsSome (out printed : Device) (ended : RunOutcome) : Type 0 where
   pub rest : Device
   pub shows : ShowsAnswer MAX_READS input rest out printed ended
 
--- the response was printed, or a line for a response that could not be encoded or allocated
+-- the response was printed; or a line, because the response could not be encoded or an allocation
+-- failed
 abbrev pub AnswersLoop : List ℕ → ℕ → List Event → Device → Device → RunOutcome → Type 0
 AnswersLoop first most given out printed ended =
     (ServesLoop first most given true × ShowsSome out printed ended)

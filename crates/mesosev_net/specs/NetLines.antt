@@ -5,19 +5,19 @@ use Rattle.mesosev_stream.specs.Printing.{LacksMemory, Prints}
 use Rattle.mesosev_stream.specs.declared.exit_status.ExitStatus.TheVariants as exit
 use Rattle.mesosev_stream.specs.declared.outcome.RunOutcome.{RunOutcome}
 
--- the address could not be bound
+-- the line if the address could not be bound
 abbrev pub bind_failed : List ℕ
 bind_failed = codes "net bind failed\n"
 
--- no connection could be accepted
+-- the line if no connection could be accepted
 abbrev pub accept_failed : List ℕ
 accept_failed = codes "net accept failed\n"
 
--- the peer could not be connected to
+-- the line if connecting to the peer failed
 abbrev pub connect_failed : List ℕ
 connect_failed = codes "net connect failed\n"
 
--- one of the three lines
+-- `line` is one of the three lines
 abbrev pub IsNetLine : List ℕ → Type 0
 IsNetLine line = (line ≡ bind_failed) ⊎ (line ≡ accept_failed) ⊎ (line ≡ connect_failed)
 

@@ -25,28 +25,31 @@ pub record ServesSome (most : ℕ) (before : MasterState) (given : List Event) (
   pub written : Device
   pub serves : ServesOne before given most input rest writer written out printed later served
 
--- the next connection was served, with that many bytes printed; or accepting or printing failed
+-- the next connection was served, and `bytes` bytes were printed; or accepting or printing failed
 abbrev pub ServesNext : MasterState → List Event → Device → Device → MasterState → Result ℕ RunOutcome → Type 0
 ServesNext before given out printed later (Ok bytes) = (served : Served) × ServesSome STREAM_CHUNK before given out printed later (Ok served) × (bytes ≡ served.printed)
 ServesNext before given out printed later (Err ended) =
     (ReportsNet accept_failed out printed ended × (later ≡ before))
     ⊎ ((fault : WriteFault) × ServesSome STREAM_CHUNK before given out printed later (Err fault) × (ended ≡ OutputFailed fault.sent))
 
--- that many connections were served, with this state of the master and number of printed bytes
+-- the given number of connections was served; `later` is then the state of the master, and `bytes`
+-- the number of printed bytes
 unfoldable pub Turned : ℕ → MasterState → List Event → Device → Device → MasterState → ℕ → Type 0
 Turned zero before given out printed later bytes = (later ≡ before) × (printed ≡ out) × (bytes ≡ 0)
 Turned (suc n) before given out printed later bytes =
     (between : MasterState) × (reported : Device) × (sum : ℕ) × (more : ℕ) × Turned n before given out reported between sum
     × ServesNext between given reported printed later (Ok more) × (bytes ≡ saturated (sum + more))
 
--- all connections were served; or one failed, after what was printed for those before
+-- all `count` connections were served; or one of them failed, after the lines of the connections
+-- before it were printed
 abbrev pub ServesTurns : MasterState → List Event → ℕ → Device → Device → RunOutcome → Type 0
 ServesTurns before given count out printed ended =
     ((later : MasterState) × (bytes : ℕ) × Turned count before given out printed later bytes × (ended ≡ Status exit.Success))
     ⊎ ((n : ℕ) × (between : MasterState) × (reported : Device) × (sum : ℕ) × (later : MasterState) × (last : RunOutcome) × (n < count)
     × Turned n before given out reported between sum × ServesNext between given reported printed later (Err last) × (ended ≡ ended_after sum last))
 
--- a test master with these ids, and these events for its streams, was served
+-- A test master was served: `count` connections, with consecutive stream ids from `first`, and the
+-- events `given` for each stream. Or an allocation or binding failed, and a line was printed.
 abbrev pub ServesEvents : List ℕ → ℕ → List Event → Device → Device → RunOutcome → Type 0
 ServesEvents first count given out printed ended =
     LacksMemory out printed ended ⊎ ReportsNet bind_failed out printed ended

@@ -3,10 +3,10 @@ use Rattle.std.specs.Prelude.{ℕ, ◌+◌, ◌%◌, ◌^◌, List}
 use Rattle.std.specs.Int.{from_be_bytes, to_be_bytes, w128}
 use Rattle.uuid.specs.Text.{by_index}
 
--- the id after that many others, as 128-bit numbers that wrap around
+-- the i-th id after `first`; ids are 128-bit numbers that wrap around
 abbrev pub id_at : List ℕ → ℕ → List ℕ
 id_at first i = to_be_bytes w128 ((from_be_bytes w128 first + i) % 2 ^ 128)
 
--- that many consecutive ids, from the first
+-- `count` consecutive ids, from `first`
 abbrev pub ids_from : List ℕ → ℕ → List (List ℕ)
 ids_from first count = by_index count (id_at first)

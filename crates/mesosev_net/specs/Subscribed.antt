@@ -8,7 +8,7 @@ use Rattle.mesosev_stream.specs.Printing.{LacksMemory}
 use Rattle.mesosev_stream.specs.declared.outcome.RunOutcome.{RunOutcome}
 use Rattle.mesosev_serve.specs.Subscribing.{SubscribesOver}
 
--- the framework was subscribed over some socket, and what arrived was printed
+-- the framework was subscribed over some socket, and the response was printed
 pub record SubscribesSome (info : FrameworkInfo) (host : List ℕ) (reads : ℕ) (out printed : Device) (ended : RunOutcome) : Type 0 where
   pub input : Device
   pub rest : Device
@@ -16,7 +16,8 @@ pub record SubscribesSome (info : FrameworkInfo) (host : List ℕ) (reads : ℕ)
   pub written : Device
   pub subscribes : SubscribesOver info host reads input rest writer written out printed ended
 
--- `SubscribesSome` for this user and name; or a line if connecting or an allocation failed
+-- `SubscribesSome` holds for a framework with the given user and name; or a line was printed,
+-- because connecting or an allocation failed
 unfoldable pub Subscribes : List ℕ → List ℕ → List ℕ → ℕ → Device → Device → RunOutcome → Type 0
 Subscribes host user name reads out printed ended =
     LacksMemory out printed ended ⊎ ReportsNet connect_failed out printed ended

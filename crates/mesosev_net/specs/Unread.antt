@@ -6,10 +6,10 @@ pub record Unread : Type 0 where
   pub pending : List ℕ
   pub unread : ℕ
 
--- some of the pending bytes were written
+-- some or none of the pending bytes were written
 abbrev pub Writes : Unread → Unread → Type 0
 Writes old new = (n : ℕ) × (new.pending ≡ drop n old.pending) × (new.unread ≡ old.unread + n)
 
--- that many bytes were read, after some were written
+-- `count` bytes were read, after some or none of the pending bytes were written
 abbrev pub Takes : ℕ → Unread → Unread → Type 0
 Takes count old new = (between : Unread) × Writes old between × (new ≡ record between { unread = between.unread - count })

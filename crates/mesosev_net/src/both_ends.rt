@@ -29,20 +29,20 @@ const USER: &str = "root";
 /// The name of the subscribing framework.
 const NAME: &str = "loopback";
 
-/// The host in its request.
+/// The host in the request of the subscribing framework.
 const HOST: &str = "127.0.0.1";
 
 /// The id of the stream as a number: 00000000-0000-4000-8000-000000000001.
 pub const LOOPBACK_STREAM: u128 = 0x4000_8000_0000_0000_0001;
 
 /// Reads events as plain RecordIO, sends them over a socket from a test master to a scheduler in
-/// the same process, and prints what arrives. The stream has chunks of `most` bytes. The scheduler
-/// has the user `root` and the name `loopback`, and prints like `subscribe_over`.
+/// the same process, and prints the events that arrive. The stream has chunks of `most` bytes. The
+/// scheduler has the user `root` and the name `loopback`, and prints like `subscribe_over`.
 ///
 /// Prints one line with the status `Fault` for an error of the input, a failed connection or a
 /// failed allocation. If the stream or SUBSCRIBE cannot be encoded or sent, the line is `net write
 /// failed`. Buffers all events and their encoded stream. Does not free the events and the master,
-/// because that took a tenth of the run time.
+/// because freeing them took a tenth of the run time.
 pub fn loopback<R, I: Source, O: Sink>(
     rt: &R,
     most: ChunkSize,
@@ -68,7 +68,7 @@ where
     }
 }
 
-/// Sends the events from a test master to a scheduler, and prints what arrives.
+/// Sends the events from a test master to a scheduler, and prints the events that arrive.
 fn loop_events<R, O: Sink>(
     rt: &R,
     stream: Uuid,
@@ -122,7 +122,7 @@ fn answer<O: Sink>(
         &mut written,
         &mut dropped,
     );
-    // Not freed, like the events.
+    // The master is not freed, like the events.
     mem::forget(master);
     if is_whole(&served) {
         let asked = reader.counts();
@@ -143,8 +143,8 @@ fn is_whole(served: &Result<Served, WriteFault>) -> bool
     }
 }
 
-/// Prints the response, while the server writes it. A complete request without a response means
-/// that an allocation failed, which is printed.
+/// Prints the response, while the server writes the response. A complete request without a
+/// response means that an allocation failed; this error is then printed.
 fn show<O: Sink>(
     alloc: Global,
     pair: &Pair,
@@ -160,7 +160,7 @@ fn show<O: Sink>(
     if bytes.is_empty() && was_asked {
         return out_of_memory(out);
     }
-    // Without this the kernel delays small writes.
+    // Without this option the kernel delays small writes.
     let _ = pair.server.set_nodelay(true);
     let turns = InterleavedReader::new(&pair.client, &pair.server, bytes);
     // This capacity lets one call read everything written.
@@ -170,7 +170,7 @@ fn show<O: Sink>(
     }
 }
 
-/// Prints the response from this reader.
+/// Prints the response that `reader` returns.
 fn show_from<S: Source, O: Sink>(alloc: Global, reader: &mut S, out: &mut O) -> RunOutcome
     ensures { ShowsSome (device_of O.written O.counts out.old)
         (device_of O.written O.counts out.new) result }
@@ -178,7 +178,8 @@ fn show_from<S: Source, O: Sink>(alloc: Global, reader: &mut S, out: &mut O) -> 
     show_answer(alloc, reader, MAX_READS, out)
 }
 
-/// Prints why there is no response: it could not be encoded, or an allocation failed.
+/// Prints the reason for which there is no response: the response could not be encoded, or an
+/// allocation failed.
 fn report_unanswered<O: Sink>(out: &mut O, refusals: u64) -> RunOutcome
     ensures { Prints (device_of O.written O.counts out.old) (device_of O.written O.counts out.new)
         write_failed_line ExitStatus.Fault result

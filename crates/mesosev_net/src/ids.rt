@@ -7,7 +7,7 @@ use mes_json::NoMemory;
 use std::alloc::Global;
 use uuid::Uuid;
 
-/// Returns `count` consecutive ids, as 128-bit numbers that wrap around.
+/// Returns `count` consecutive stream ids: 128-bit numbers that wrap around.
 pub(crate) fn stream_ids(alloc: Global, first: Uuid, count: u16) -> Result<Vec<Uuid>, NoMemory>
     ensures { IfOk result (λ ids. ids.items ≡ ids_from first count) }
 {

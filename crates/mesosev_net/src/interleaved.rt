@@ -12,9 +12,9 @@ use std::net::TcpStream;
 /// The largest number of bytes that are written and not yet read.
 pub const MAX_UNREAD: usize = 4_096;
 
-/// Reads at the client. Before each read the server writes pending bytes, until `MAX_UNREAD` are
-/// unread, so that a read never blocks forever. A reader with a buffer of that size gets all of
-/// them in one call.
+/// Reads at the client. Before each read the server writes pending bytes, until `MAX_UNREAD` bytes
+/// are unread, so that a read never blocks forever. A reader with a buffer of `MAX_UNREAD` bytes
+/// receives all unread bytes in one call.
 #[derive(Drop)]
 pub(crate) struct InterleavedReader<'a> {
     client: &'a TcpStream,
@@ -54,7 +54,7 @@ impl<'a> InterleavedReader<'a> {
         }
     }
 
-    // Lets the server write. Errors: a write failed, or wrote 0 bytes.
+    // Writes pending bytes at the server. Errors: a write failed, or wrote 0 bytes.
     fn write_pending(&mut self) -> io::Result<()>
         ensures ok { OnOk result (Writes self.old self.new) }
         ensures err { OnErr result (self.new ≡ self.old) }
@@ -74,7 +74,8 @@ impl<'a> InterleavedReader<'a> {
         Ok(())
     }
 
-    // Reads what the server wrote: nothing once everything was read. Errors: either end failed.
+    // Reads bytes that the server wrote: 0 bytes once all of them were read. Errors: a read of the
+    // client or a write of the server failed.
     fn take(&mut self, buffer: &mut [u8]) -> io::Result<usize>
         ensures bound { ReadsAtMost result buffer.new }
         ensures taken { IfOk result (λ count. Takes count self.old self.new) }

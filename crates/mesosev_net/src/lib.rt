@@ -2,13 +2,13 @@
 //! The subcommands `serve`, `subscribe` and `loopback` of `mesosev`, over TCP sockets.
 //!
 //! [`serve`] is a test master that serves connections one after the other. [`subscribe`] is a
-//! scheduler that prints the events of a master. [`loopback`] is both in one process. Each socket
-//! is closed when its connection ends.
+//! scheduler that prints the events of a master. [`loopback`] runs a test master and a scheduler in
+//! one process. Each socket is closed when its connection ends.
 //!
 //!     let outcome = serve(rt, port, count, stream_id, input, out);
 //!     let status = finish(outcome, out.is_closed(), err);
 //!
-//! `mesosev_serve` has one connection over any devices, and its tests are in the crate
+//! The crate `mesosev_serve` serves one connection over any devices; its tests are in the crate
 //! `mesosev_serve_tests`. The tests of the sockets run the program: see `tests/net.py`.
 
 mod both_ends;

@@ -17,7 +17,7 @@ pub(crate) struct Pair {
 
 /// Connects this process to itself, on a free port of 127.0.0.1.
 ///
-/// Errors: the line to print.
+/// On an error, returns the line to print.
 pub(crate) fn connected_pair<R>(rt: &R) -> Result<Pair, &'static str>
 where
     R: Net<Listener = TcpListener, Stream = TcpStream>,

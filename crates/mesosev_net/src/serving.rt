@@ -30,17 +30,17 @@ pub const STREAM_CHUNK: u32 = 4_096;
 /// The largest number of unread bytes of a request that one read discards.
 const UNREAD_READ: usize = 4_096;
 
-/// The largest number of such reads: 16 MiB in all.
+/// The largest number of reads that discard unread bytes of a request: 16 MiB in all.
 const UNREAD_READS: u32 = 4_096;
 
 /// Reads events as plain RecordIO, then serves `count` connections on a port of 127.0.0.1, one
-/// after the other. It is a test master of the framework `F1`. Its streams have consecutive ids
-/// from `stream`, and the events in chunks of `STREAM_CHUNK` bytes. Prints the lines of each
-/// connection like `serve_one`.
+/// after the other, as a test master of the framework `F1`. The streams have consecutive ids from
+/// `stream`, and the events in chunks of `STREAM_CHUNK` bytes. Prints the lines of each connection
+/// like `serve_one`.
 ///
-/// A connection is closed before the next is accepted; no client can end the run. Prints an error
-/// of the input, or of the socket, with the status `Fault`. Buffers all events, and the encoded
-/// stream of one connection.
+/// A connection is closed before the next is accepted; no client can stop the test master. Prints
+/// an error of the input, or of the socket, with the status `Fault`. Buffers all events, and the
+/// encoded stream of one connection.
 pub fn serve<R, I: Source, O: Sink>(
     rt: &R,
     port: u16,
@@ -64,7 +64,7 @@ where
     }
 }
 
-/// Serves a test master with these events on this port.
+/// Serves a test master with the given events on the given port.
 fn serve_events<R, O: Sink>(
     rt: &R,
     port: u16,
@@ -121,7 +121,7 @@ fn serve_turns<O: Sink>(
 
 /// Accepts the next connection, serves it, and closes it. Returns the number of bytes printed.
 ///
-/// Errors: no connection could be accepted, which was printed; or the output failed.
+/// Errors: no connection could be accepted, and this error was printed; or the output failed.
 fn serve_next<O: Sink>(
     alloc: Global,
     listener: &TcpListener,
@@ -154,7 +154,7 @@ fn serve_next<O: Sink>(
 }
 
 /// Discards the unread bytes of a request that have arrived. Closing a socket with unread bytes
-/// resets it, and the client may lose the response. Never blocks.
+/// resets the connection, and the client may lose the response. Never blocks.
 fn pass_over_unread(stream: &TcpStream) {
     if stream.set_nonblocking(true).is_err() {
         return;

@@ -13,9 +13,9 @@ use mesosev_stream::{ExitStatus, RunOutcome, out_of_memory, print_text};
 use std::alloc::AllocGlobal;
 use std::net::{Net, TcpListener, TcpStream};
 
-/// Connects to `to`, subscribes a framework with this user and name, and prints the events of the
-/// stream like `subscribe_over`. Reads the body in at most `reads` reads. Prints a line with the
-/// status `Fault` if it cannot connect.
+/// Connects to `to`, subscribes a framework with the given user and name, and prints the events of
+/// the stream like `subscribe_over`. Reads the body in at most `reads` reads. If connecting fails,
+/// prints a line; the status is `Fault`.
 pub fn subscribe<R, O: Sink>(
     rt: &R,
     to: &Host,

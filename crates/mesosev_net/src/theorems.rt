@@ -6,8 +6,8 @@ use crate::both_ends::LOOPBACK_STREAM;
 use crate::interleaved::MAX_UNREAD;
 use crate::serving::STREAM_CHUNK;
 
-/// Proves the limits: chunks of 4,096 bytes, at most 4,096 unread bytes in `loopback`, and its
-/// stream id 00000000-0000-4000-8000-000000000001.
+/// Proves the constants: chunks of 4,096 bytes, at most 4,096 unread bytes in `loopback`, and the
+/// stream id 00000000-0000-4000-8000-000000000001 of `loopback`.
 pub fn net_limits()
     ensures chunk { STREAM_CHUNK ≡ 4096 }
     ensures unread { MAX_UNREAD ≡ 4096 }

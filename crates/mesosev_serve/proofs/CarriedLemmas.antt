@@ -1,11 +1,11 @@
--- Which responses of a master have status 200.
+-- A call that is carried out has status 202, and after status 200 the master has a current stream.
 use Rattle.std.proofs.Common.{◌≡◌, ℕ, Bool, true, false, if◌then◌else◌, List, [], ◌∷◌, Option, Some, None, refl, arith}
 use Rattle.std.specs.Prelude.{IsSome}
 use Rattle.mes_msg.specs.Call.{Call}
 use Rattle.mes_msg.specs.Call.TheVariants as of
 use Rattle.mes_double_master.specs.Masters.{MasterState, MasterAnswer, plain, subscribed, carried_out, is_named, in_stream, is_subscribe, handled}
 
--- a call that is carried out has status 202
+-- the response to a call that is carried out has status 202
 carried_status : (m : MasterState) (call : Call) → (carried_out m call).status ≡ 202
 carried_status m (of.Subscribe framework body) = refl
 carried_status m (of.Accept framework body) = refl
@@ -33,7 +33,7 @@ pub not_carried : (m : MasterState) (call : Call) (b : Bool) → (if b then carr
 not_carried m call true e = not_both (carried_out m call).status (carried_status m call) e
 not_carried m call false e = omega arith
 
--- after status 200 the master has a current stream
+-- after a response with status 200 the master has a current stream
 pub ok_stream : (m : MasterState) (call : Call) (given : Option (List ℕ)) → (handled m call given).status ≡ 200 → HasStream (handled m call given)
 ok_stream m call given e = by _ (is_subscribe call) m.stream e
   where

@@ -1,4 +1,4 @@
--- One more of the events that are given to a stream.
+-- The state of a stream after one more of the given events.
 use Rattle.std.proofs.Common.{◌≡◌, ℕ, ◌+◌, ◌<◌, ◌⊎◌, List, ◌++◌, length, take, drop, get_or, refl, sym, ap, ◌∙◌, inl, inr, take-append-drop}
 use Rattle.std.proofs.lemmas.List.Sums.{fold_more}
 use Rattle.mes_msg.specs.Event.{Event}
@@ -11,11 +11,11 @@ given_more s now then events event i inside here before next =
     next ∙ ap (λ (t : Streamed). and_given t event) before ∙ ap (λ (e : Event). and_given (and_all_given s (take i events)) e) here
     ∙ sym (fold_more and_given s events i event inside)
 
--- the master's state after a prefix of the events
+-- m is the master's state after a prefix of the events
 abbrev pub LeavesFront : Streamed → List Event → MasterState → Type 0
 LeavesFront s events m = (front : List Event) × (rest : List Event) × (events ≡ front ++ rest) × (m ≡ (and_all_given s front).master)
 
--- an allocation failed at the event at index i, which the master may have sent
+-- an allocation failed at the event at index i: the master's state is that before or after it
 pub given_front : (s now : Streamed) (events : List Event) (event : Event) (i : ℕ) (m : MasterState) → i < length events → event ≡ get_or events i event
     → now ≡ and_all_given s (take i events) → (m ≡ now.master) ⊎ (m ≡ (and_given now event).master) → LeavesFront s events m
 given_front s now events event i m inside here before (inl is) =

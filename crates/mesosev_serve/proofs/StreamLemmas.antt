@@ -1,4 +1,4 @@
--- Which events are sent on a stream, and why each of them may follow those before it.
+-- Which of the given events are sent on a stream, and that each of them may follow those before it.
 use Rattle.std.proofs.Common.{◌≡◌, ◌⊎◌, inl, inr, ℕ, Bool, true, false, ◌||◌, not, ◌==◌, if◌then◌else◌, List, [], ◌∷◌, ◌++◌, Option, Some, None, is_some, Ok, Err, refl, sym, ap, subst, ◌∙◌, append_assoc, arith}
 use Rattle.std.specs.List.{flat_map, list_any}
 use Rattle.std.specs.Str.{bytes_eq}
@@ -32,7 +32,7 @@ use Rattle.mes_msg.specs.RecordFault.{RecordFault}
 use Rattle.mes_msg.specs.RecordFault.TheVariants as unread
 use Rattle.mesosev_serve.proofs.CarriedLemmas.{not_carried}
 
--- ---- identifiers among others
+-- ---- identifiers in lists of identifiers
 
 among-left : (d : Id) (a b : List Id) → is_among d a ≡ true → is_among d (a ++ b) ≡ true
 among-left d a b h = list_any-append (same_id d) a b ∙ or_left _ _ h
@@ -40,11 +40,11 @@ among-left d a b h = list_any-append (same_id d) a b ∙ or_left _ _ h
 among-right : (d : Id) (a b : List Id) → is_among d b ≡ true → is_among d (a ++ b) ≡ true
 among-right d a b h = list_any-append (same_id d) a b ∙ or_right _ _ h
 
--- two equal identifiers occur in the same lists
+-- equal identifiers occur in the same lists
 among-same : (d e : Id) (ids : List Id) → same_id d e ≡ true → is_among d ids ≡ is_among e ids
 among-same d e ids same = ap (λ (v : List ℕ). list_any (λ (y : Id). bytes_eq v y.value) ids) ((bytes_eq-Decides d.value e.value).0 same)
 
--- a new identifier differs from the others
+-- if `is_duplicate ks ds` is false, no identifier d of ds occurs in ks
 new-apart : (d : Id) (ks ds : List Id) → is_duplicate ks ds ≡ false → is_among d ds ≡ true → is_among d ks ≡ false
 new-apart d ks [] none h = absurd (cc)
 new-apart d ks (x ∷ xs) none h = by (or_cases (same_id d x) (is_among d xs) h) (λ g. new-apart d ks xs both.1 g)
@@ -56,7 +56,7 @@ new-apart d ks (x ∷ xs) none h = by (or_cases (same_id d x) (is_among d xs) h)
     by (inl g) rest = among-same d x ks g ∙ (or_parts _ _ both.0).0
     by (inr g) rest = rest g
 
--- ---- offers that are outstanding
+-- ---- identifiers of outstanding offers
 
 abbrev named : Id → Offer → Bool
 named d o = same_id d o.id
@@ -73,7 +73,7 @@ among-offers : (d : Id) (os : List Offer) → list_any (named d) os ≡ is_among
 among-offers d [] = refl
 among-offers d (o ∷ os) = ap (λ (b : Bool). same_id d o.id || b) (among-offers d os)
 
--- an offer that is added replaces another, or comes last
+-- an offer in the list after x is added was in the list before, or is x
 any-put : (p : Offer → Bool) (os : List Offer) (x : Offer) → list_any p (with_offers os (x ∷ [])) ≡ true → (list_any p os ≡ true) ⊎ (p x ≡ true)
 any-put p [] x h = elim (or_cases (p x) false h) [
   | inl g ↦ inr g
@@ -111,13 +111,13 @@ any-with p os (x ∷ news) h = by (any-with p (with_offers os (x ∷ [])) news h
     by (inl g) = put-in (any-put p os x g)
     by (inr g) = inr (or_right (p x) _ g)
 
--- two texts differ if a third equals only one of them
+-- a and b differ, if c equals a and differs from b
 apart-by : (a b c : List ℕ) → bytes_eq a c ≡ true → bytes_eq b c ≡ false → bytes_eq a b ≡ false
 apart-by a b c same other =
     false_from_ne_true (bytes_eq a b)
     (λ t. both_ways (bytes_eq b c) other (ap (λ (v : List ℕ). bytes_eq v c) (sym ((bytes_eq-Decides a b).0 t)) ∙ same))
 
--- the remaining offers once one is removed
+-- an offer that remains once the offer `gone` is removed was in the list, and is not `gone`
 any-without : (d gone : Id) (os : List Offer) → list_any (named d) (without_offer gone.value os) ≡ true → (list_any (named d) os ≡ true) × (same_id d gone ≡ false)
 any-without d gone [] h = absurd (cc)
 any-without d gone (o ∷ os) h = by (same_id gone o.id) refl h (any-without d gone os)
@@ -147,9 +147,10 @@ there-without d gone os h =
     any-without d gone os (sym (there-any d (without_offer gone.value os)) ∙ h) in
     (there-any d os ∙ left.0, left.1)
 
--- ---- what a master has once some events went out
+-- ---- the state of a master after some events of a stream
 
--- the state of a master that was m before a stream with these offers, rescinds and updates
+-- `now` is the state of a master that had the state m before a stream with the offers `offered`,
+-- the rescinded offers `rescinded` and the updates `owing`
 record Known (m : MasterState) (offered rescinded : List Id) (owing : List (OwedKey × TaskStatus)) (now : MasterState) : Type 0 where
   pub offered_is : now.offered ≡ m.offered ++ offered
   pub owing_is : now.owing ≡ m.owing ++ owing
@@ -224,9 +225,10 @@ module _ (m : MasterState) (o r : List Id) (w : List (OwedKey × TaskStatus)) (n
     rescinded_is = k.rescinded_is;
   }
 
--- ---- one event that is given
+-- ---- one given event
 
--- the given event e is skipped, or it is sent, which `May` permits, and `Later` holds of the master
+-- the given event e is skipped; or e is sent, `May` holds, and `Later` holds for the new state of
+-- the master
 data Step (s t : Streamed) (e : Event) (May : Type 0) (Later : MasterState → Type 0) : Type 0 where
   skipped : t ≡ s → Step s t e May Later
   sent : t.events ≡ s.events ++ e ∷ [] → May → Later t.master → Step s t e May Later
@@ -296,7 +298,7 @@ module _ (m : MasterState) (front : List Event) (s : Streamed) (k : Stands m fro
       by None = sent refl tt (told-known m _ _ _ s.master k status)
       by (Some key) = owing key (has_update s.master.owing key) refl
 
-  -- an event that is sent unchanged
+  -- the state after an event without offers, rescinds and updates that require an acknowledgement
   other-step : (e : Event) → offers_by e ≡ [] → rescinds_by e ≡ [] → owing_by e ≡ [] → Stands m (front ++ e ∷ []) s.master
   other-step e a b c = moved m s.master _ _ _ _ _ _ (brings-none offers_by front e a) (brings-none rescinds_by front e b) (brings-none owing_by front e c) k
 
@@ -311,9 +313,9 @@ module _ (m : MasterState) (front : List Event) (s : Streamed) (k : Stands m fro
   given-step event.Heartbeat = sent refl tt (other-step event.Heartbeat refl refl refl)
   given-step (event.Other name) = sent refl tt (other-step (event.Other name) refl refl refl)
 
--- ---- several that are given
+-- ---- several given events
 
--- the given events that were sent on the stream
+-- the events `rest` were sent after those of s: some of the given events, and each may follow
 record GoOut (m : MasterState) (front given : List Event) (s end : Streamed) : Type 0 where
   pub rest : List Event
   pub events : end.events ≡ s.events ++ rest
@@ -343,7 +345,7 @@ go-out m front (e ∷ given) s k = by (and_given s e) (given-step m front s k e)
           follow = (may, r.follow);
         }
 
--- ---- a stream that a SUBSCRIBE opens
+-- ---- the stream that a SUBSCRIBE opens meets `IsOneStream`
 
 subscribed-one : (m : MasterState) (uuids : List (List ℕ)) (given : List Event) → (subscribed m uuids).status ≡ 200
     → IsOneStream m given (and_all_given (opening (subscribed m uuids)) given).events
@@ -371,9 +373,9 @@ opens-one m call stream given e = by _ (is_subscribe call) m.stream e
     by false false None e = absurd (omega arith)
     by false false (Some current) e = absurd (not_carried m call (is_named current stream) e)
 
--- ---- the stream of a reply
+-- ---- the stream of a response meets `IsOneStream`
 
--- the response of a master to a call: a stream, or another status
+-- the response of a master to a call: a stream if b is true, or another status
 abbrev served : MasterAnswer → List Event → Bool → Service
 served answer given b = if b then streamed answer.master.stream (and_all_given (opening answer) given) else record { reply = Status answer.status; master = answer.master }
 
@@ -409,7 +411,7 @@ module _ (m : MasterState) (given : List Event) where
   one-reply (Calls stream call) reply later (inl r) = subst (IsStreamReply m given) (sym r.0) (call-reply call stream)
   one-reply (Calls stream call) reply later (inr r) = subst (IsStreamReply m given) (sym r.0) tt
 
--- ---- no RESCIND comes again
+-- ---- no RESCIND is sent twice
 
 follow-at : (m : MasterState) (front events back : List Event) (e : Event) → AllFollow m front (events ++ e ∷ back) → MayFollow m (front ++ events) e
 follow-at m front [] back e all = subst (λ (l : List Event). MayFollow m l e) (sym (append-nil front)) all.0

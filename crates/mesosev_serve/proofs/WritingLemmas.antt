@@ -1,4 +1,4 @@
--- A written stream: its head, then its records in chunks.
+-- Lemmas about writing a stream: its head, then its records in chunks.
 use Rattle.std.proofs.Common.{◌≡◌, ℕ, ◌^◌, ◌<◌, ◌≤◌, List, ◌++◌, Result, Ok, Err, length, take, refl, subst}
 use Rattle.std.specs.Io.KnownBytes.{Appends}
 use Rattle.mes_msg.specs.Event.{Event}
@@ -19,7 +19,7 @@ use Rattle.mesosev_serve.specs.declared.response.Reply.TheVariants.{Stream}
 use Rattle.mesosev_serve.specs.declared.response_writer.SendError.{SendError}
 use Rattle.mesosev_serve.specs.declared.response_writer.SendError.TheVariants as unsent
 
--- ---- a text that went out by one write or more
+-- ---- a text that was written by one or more calls
 
 wrote : (a b : Device) (w : List ℕ) (all : ℕ) → WentOut a.bytes b.bytes a.counts b.counts w 0 all → Wrote a b w
 wrote a b w all out = record { out = out.out; none_fails = out.good; calls = out.calls }
@@ -27,7 +27,7 @@ wrote a b w all out = record { out = out.out; none_fails = out.good; calls = out
 stopped : (a b : Device) (w : List ℕ) (f : WriteFault) → Stops a.bytes b.bytes a.counts b.counts w 0 f → Stopped a b w f
 stopped a b w f stops = record { out = front_of a.bytes b.bytes w f.sent stops.part; last = stops.why; calls = stops.calls }
 
--- ---- what a write says
+-- ---- a writer that failed
 
 front_stops : (a b : Device) (w : List ℕ) (f : WriteFault) → (f.sent < length w) × Appends a.bytes b.bytes (take f.sent w)
     → StopsWrite f.why a.counts b.counts → CallsFor (length w) a.counts b.counts → (g : WriteFault) × Stops a.bytes b.bytes a.counts b.counts w 0 g
@@ -35,7 +35,7 @@ front_stops a b w f (short, out) why calls =
     let g : WriteFault = record f { sent = up 0 f.sent } in
     (g, part_stops a.bytes b.bytes a.counts b.counts w 0 g (record { n = f.sent; short = short; out = out; sent_is = refl }) why calls)
 
--- a write that fails after the bytes v
+-- if v was written, and the writer then failed in w, the writer failed in v ++ w
 behind_stops : (a b c : Device) (v w : List ℕ) (some : ℕ) (f : WriteFault) → WentOut a.bytes b.bytes a.counts b.counts v 0 some
     → WroteFront b.bytes c.bytes w f.sent → StopsWrite f.why b.counts c.counts → CallsFor (length w) b.counts c.counts
     → (g : WriteFault) × Stops a.bytes c.bytes a.counts c.counts (v ++ w) 0 g
@@ -46,7 +46,7 @@ behind_stops a b c v w some f first front why calls =
 
 -- ---- the head of a stream, and its chunks
 
--- the writer failed in the head
+-- the writer failed in the head of the stream
 pub head_stops : (T : Type 0) (most : ℕ) (id records : List ℕ) (a b : Device) (f : WriteFault) → 1 ≤ most
     → (f.sent < length (ok_text id)) × Appends a.bytes b.bytes (take f.sent (ok_text id)) → StopsWrite f.why a.counts b.counts
     → CallsFor (length (ok_text id)) a.counts b.counts → WritesRecords {T = T} most id records a b (Err unsent.Write)
@@ -55,7 +55,7 @@ head_stops T most id records a b f some out why calls =
     let head = front_stops a b (ok_text id) f out why calls in
     (framed.0, framed.1, (head.0, stopped a b (ok_text id ++ framed.0) head.0 (stops_long a.bytes b.bytes a.counts b.counts (ok_text id) framed.0 0 head.0 head.1)))
 
--- after the head was written
+-- the state of the writer after the head of the stream was written
 module _ (most : ℕ) (id records : List ℕ) (a b c : Device) (out : Appends a.bytes b.bytes (ok_text id)) (good : NoneFails a.counts b.counts) (calls : CallsFor (length (ok_text id)) a.counts b.counts) where
   head : WentOut a.bytes b.bytes a.counts b.counts (ok_text id) 0 (up 0 (length (ok_text id)))
   head = part_out a.bytes b.bytes a.counts b.counts (ok_text id) 0 (up 0 (length (ok_text id))) out good refl calls
@@ -76,7 +76,7 @@ module _ (most : ℕ) (id records : List ℕ) (a b c : Device) (out : Appends a.
       let both = behind_stops a b c (ok_text id) w (up 0 (length (ok_text id))) f head front why (subst P (framing_is_unique records v w most same framed) asked) in
       (w, framed, (both.0, stopped a c (ok_text id ++ w) both.0 both.1))
 
--- the records are those of the events
+-- `WritesRecords` for the records of the events implies `Writes` for the stream of the events
 records_written : {T : Type 0} (most : ℕ) (id records : List ℕ) (events : List Event) (a b : Device) (sent : Result T SendError) → most < 2 ^ 64
     → IsPlainOf DEFAULT_RECORD_LIMIT events records → WritesRecords most id records a b sent → Writes most (Stream id events) a b sent
 records_written most id records events a b (Ok done) small plain (w, framed, out) =

@@ -32,7 +32,7 @@ abbrev pub asked_name : ParsedRequest → List ℕ
 asked_name (Calls stream c) = call_name c
 asked_name _ = codes "-"
 
--- the status of the response, or `-`
+-- the status of the response, or `-` without a response
 abbrev pub reply_name : Reply → List ℕ
 reply_name Nothing = codes "-"
 reply_name (Status code) = decimal code
@@ -51,14 +51,14 @@ served_lines reply asked (Err unsent.NoMemory) = served_line (codes "-") (asked_
 served_lines reply asked (Err unsent.Encode) = served_line (reply_name reply) (asked_name asked) ++ write_failed_line
 served_lines reply asked (Err unsent.Write) = served_line (reply_name reply) (asked_name asked) ++ write_failed_line
 
--- whether the whole response was written; true if an allocation failed, so that none was due
+-- true if the whole response was written, or if there is none because an allocation failed
 abbrev pub is_answered : {T : Type 0} → Result T SendError → Bool
 is_answered (Ok done) = true
 is_answered (Err unsent.NoMemory) = true
 is_answered (Err unsent.Encode) = false
 is_answered (Err unsent.Write) = false
 
--- the lines were printed, and their bytes and the result returned; or the output failed
+-- the lines were printed, and `served` has their number of bytes; or the output failed
 abbrev pub Reports : List ℕ → Bool → Device → Device → Result Served WriteFault → Type 0
 Reports text answered old new (Ok served) = Wrote old new text × (served.answered ≡ answered) × (served.printed ≡ length text)
 Reports text answered old new (Err fault) = Stopped old new text fault

@@ -1,4 +1,4 @@
--- One stream: which events are sent, and which event may follow those before it.
+-- The events of one stream: which of the given events are sent, and which event may follow others.
 use Rattle.std.specs.Prelude.{◌≡◌, ◌⊎◌, Bool, true, false, List, [], ◌∷◌, ◌++◌, Option, Some, None}
 use Rattle.std.specs.List.{flat_map, list_any}
 use Rattle.mes_model.specs.Id.{Id}
@@ -17,7 +17,7 @@ abbrev pub IsSublist : List Event → List Event → Type 0
 IsSublist part [] = part ≡ []
 IsSublist part (e ∷ whole) = IsSublist part whole ⊎ ((rest : List Event) × (part ≡ e ∷ rest) × IsSublist rest whole)
 
--- ---- what the events of a stream did so far
+-- ---- the offers, rescinded offers and updates of the events of a stream
 
 -- the identifiers of the offers that an event makes
 abbrev pub offers_by : Event → List Id
@@ -50,19 +50,19 @@ owing_in events = flat_map owing_by events
 abbrev pub rescind_of : Id → Event
 rescind_of id = event.Rescind (record { offer_id = id })
 
--- ---- which event may follow
+-- ---- which event may follow the events before it
 
 abbrev pub is_among : Id → List Id → Bool
 is_among d ids = list_any (same_id d) ids
 
--- no earlier update requires the same acknowledgement
+-- no update in the list requires the acknowledgement with the given key
 abbrev pub IsNewUpdate : List (OwedKey × TaskStatus) → Option OwedKey → Type 0
 IsNewUpdate owing None = Unit {0}
 IsNewUpdate owing (Some key) = has_update owing key ≡ false
 
--- The event may follow `front` on a stream of a master with the state m before it: no second
--- SUBSCRIBED; offers are new; a RESCIND names an offer of this stream, not rescinded yet; an UPDATE
--- that requires an acknowledgement is new.
+-- The event may follow the events `front` on a stream; m is the state of the master before the
+-- stream. There is no second SUBSCRIBED; offers are new; a RESCIND names an offer of this stream
+-- that is not rescinded yet; an UPDATE that requires an acknowledgement is new.
 abbrev pub MayFollow : MasterState → List Event → Event → Type 0
 MayFollow m front (event.Subscribed body) = ⊥
 MayFollow m front (event.Offers offers) = is_duplicate (m.offered ++ offered_in front) (offer_ids offers) ≡ false
@@ -70,14 +70,15 @@ MayFollow m front (event.Rescind body) = (is_among body.offer_id (offered_in fro
 MayFollow m front (event.Update body) = IsNewUpdate (m.owing ++ owing_in front) (owed_key_of body.status)
 MayFollow m front _ = Unit {0}
 
--- each of the events may follow those before it
+-- each of the events may follow `front` and the events before it
 abbrev pub AllFollow : MasterState → List Event → List Event → Type 0
 AllFollow m front [] = Unit {0}
 AllFollow m front (e ∷ events) = MayFollow m front e × AllFollow m (front ++ e ∷ []) events
 
--- ---- the whole stream
+-- ---- the events of a whole stream
 
--- the stream is SUBSCRIBED, then some of the given events in order, each at most once
+-- The stream is SUBSCRIBED, then some of the given events in order, each at most once, and each may
+-- follow those before it.
 pub record IsOneStream (m : MasterState) (given events : List Event) : Type 0 where
   pub rest : List Event
   pub begins : events ≡ subscribed_event m.framework ∷ rest

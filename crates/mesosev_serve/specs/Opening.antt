@@ -13,12 +13,13 @@ pub record Streamed : Type 0 where
 abbrev pub so_far : List Event → MasterState → Streamed
 so_far events m = record { events = events; master = m }
 
--- an event that the master sends is appended; a refused one is skipped
+-- an event that the master sends is appended; an event that the master refuses is skipped
 abbrev pub and_sent : Streamed → Sends → Streamed
 and_sent s (Ok sent) = so_far (s.events ++ sent.0 ∷ []) sent.1
 and_sent s (Err why) = s
 
--- OFFERS, RESCIND, UPDATE go through the master, SUBSCRIBED is skipped, any other is appended
+-- OFFERS, RESCIND and UPDATE go through the master, SUBSCRIBED is skipped, any other event is
+-- appended
 abbrev pub and_given : Streamed → Event → Streamed
 and_given s (event.Subscribed body) = s
 and_given s (event.Offers offers) = and_sent s (offers_sent s.master offers)
@@ -30,6 +31,6 @@ and_given s given = so_far (s.events ++ given ∷ []) s.master
 abbrev pub and_all_given : Streamed → List Event → Streamed
 and_all_given s given = fold and_given s given
 
--- a stream begins with the events of the master's answer
+-- a stream begins with the master's own events
 abbrev pub opening : MasterAnswer → Streamed
 opening answer = so_far answer.events answer.master

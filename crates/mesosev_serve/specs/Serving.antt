@@ -15,14 +15,15 @@ use Rattle.mesosev_serve.specs.declared.response.Reply.{Reply}
 use Rattle.mesosev_serve.specs.declared.connection.Served.{Served}
 use Rattle.mesosev_serve.specs.declared.response_writer.SendError.{SendError}
 
--- the devices and the master's states before and after one connection with these events
+-- the devices and the master's states before and after one connection; `given` are the events for a
+-- stream
 pub record ServesOne (before : MasterState) (given : List Event) (most : ℕ) (input rest writer written out reported : Device) (later : MasterState) (served : Result Served WriteFault) : Type 0 where
-  -- a request was read, and nothing after it
+  -- a request was read, and nothing after the request
   pub taken : List ℕ
   pub consumes : Consumes input.bytes rest.bytes taken
   pub asked : ParsedRequest
   pub asks : IsAsked taken input.counts rest.counts asked
-  -- the response, and the master's state after it
+  -- the response, and the master's state after the response
   pub reply : Reply
   pub replies : Replies before given asked reply later
   -- a stream has SUBSCRIBED, then some of the given events in order, each at most once

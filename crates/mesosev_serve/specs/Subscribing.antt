@@ -1,4 +1,5 @@
--- Subscribing: SUBSCRIBE is sent, the head of the response is read, and its events are printed.
+-- Subscribing: SUBSCRIBE is sent, the head of the response is read, and the events of the body are
+-- printed.
 use Rattle.std.specs.Prelude.{◌≡◌, ℕ, ◌⊎◌, List, ◌++◌, length, None, Result, Ok, Err, codes}
 use Rattle.std.specs.Io.KnownBytes.{Consumes}
 use Rattle.mes_msg.specs.Call.{Call}
@@ -24,7 +25,7 @@ use Rattle.mes_stream.specs.declared.stream_reader.Framing.TheVariants.{Chunked}
 abbrev pub first_subscribe : FrameworkInfo → Call
 first_subscribe info = subscribe_call None info
 
--- the request with SUBSCRIBE, without a stream id, was written completely
+-- the request that has a SUBSCRIBE and no stream id was written completely
 abbrev pub SentSubscribe : FrameworkInfo → List ℕ → Device → Device → Type 0
 SentSubscribe info host old new = WroteCall (λ (d : Device). d.bytes) (λ (d : Device). d.counts) host None (first_subscribe info) old new
 
@@ -39,21 +40,22 @@ SendsSubscribe info host old new (Err fault) = StopsSubscribe info host old new 
 abbrev pub refused_line : HeadFault → List ℕ
 refused_line f = codes "refused " ++ head_fault_text f ++ codes "\n"
 
--- A head was read. If it opens a stream, the bytes after it were printed as `Shows` states; the
--- reads of the head are not counted. If not, it was printed, and nothing more was read.
+-- A head was read. If the head opens a stream, the events after it were printed as `Shows` states;
+-- the reads of the head are not counted. Otherwise the reason was printed, and nothing more was
+-- read.
 abbrev pub ShowsAnswer : ℕ → Device → Device → Device → Device → RunOutcome → Type 0
 ShowsAnswer reads input rest out reported ended =
     (taken : List ℕ) × (following : Device) × Consumes input.bytes following.bytes taken
     × (((id : List ℕ) × OpensStream taken id × GaveEach (length taken) input.counts following.counts × Shows Chunked DEFAULT_RECORD_LIMIT reads following rest out reported ended)
     ⊎ ((fault : HeadFault) × Refuses BreaksStream fault taken input.counts following.counts × (rest ≡ following) × Prints out reported (refused_line fault) exit.Fault ended))
 
--- the printed line for a SUBSCRIBE that was not sent
+-- the line for a SUBSCRIBE that was not sent was printed
 abbrev pub ReportsUnsent : SendFault → Device → Device → RunOutcome → Type 0
 ReportsUnsent send.NoMemory out reported ended = LacksMemory out reported ended
 ReportsUnsent (send.Encode index why) out reported ended = Prints out reported write_failed_line exit.Fault ended
 ReportsUnsent (send.Write fault) out reported ended = Prints out reported write_failed_line exit.Fault ended
 
--- SUBSCRIBE was sent and the response printed; or it was not, and nothing was read
+-- SUBSCRIBE was sent and the response printed; or SUBSCRIBE was not sent, and nothing was read
 abbrev pub SubscribesOver : FrameworkInfo → List ℕ → ℕ → Device → Device → Device → Device → Device → Device → RunOutcome → Type 0
 SubscribesOver info host reads input rest writer written out reported ended =
     (SentSubscribe info host writer written × ShowsAnswer reads input rest out reported ended)

@@ -18,22 +18,22 @@ use Rattle.mesosev_serve.specs.declared.response_writer.SendError.TheVariants as
 abbrev pub Wrote : Device → Device → List ℕ → Type 0
 Wrote old new w = WroteAll (λ (d : Device). d.bytes) (λ (d : Device). d.counts) old new w
 
--- exactly the first `sent` bytes of w were written, not all; one call failed as the error states
+-- only the first `sent` bytes of w were written, and one call failed, as the error `fault` states
 abbrev pub Stopped : Device → Device → List ℕ → WriteFault → Type 0
 Stopped old new w fault = WroteSome (λ (d : Device). d.bytes) (λ (d : Device). d.counts) old new w fault
 
--- w is the response: nothing, a status, or the head of a stream and its events in chunks
+-- the bytes w are the response: nothing, a status, or the head of a stream and its events in chunks
 abbrev pub IsReplyText : ℕ → Reply → List ℕ → Type 0
 IsReplyText most Nothing w = w ≡ []
 IsReplyText most (Status code) w = w ≡ status_text code
 IsReplyText most (Stream id events) w = (body : List ℕ) × IsStreamOf DEFAULT_RECORD_LIMIT most events body × (w ≡ ok_text id ++ body)
 
--- an event of the stream cannot be encoded
+-- the response is a stream, and one of its events cannot be encoded
 abbrev pub IsUnwritable : Reply → Type 0
 IsUnwritable (Stream id events) = (index : ℕ) × (why : EncodeFaultKind) × IsFirstBad DEFAULT_RECORD_LIMIT events index why
 IsUnwritable _ = ⊥
 
--- writing the response allocates
+-- writing the response allocates: the response is a stream
 abbrev pub TakesMemory : Reply → Type 0
 TakesMemory (Stream id events) = Unit {0}
 TakesMemory _ = ⊥
@@ -51,7 +51,7 @@ Writes most reply old new (Err unsent.NoMemory) = TakesMemory reply × (new ≡ 
 Writes most reply old new (Err unsent.Encode) = IsUnwritable reply × (new ≡ old)
 Writes most reply old new (Err unsent.Write) = (w : List ℕ) × IsReplyText most reply w × ((fault : WriteFault) × Stopped old new w fault)
 
--- the head and the records in chunks were written, or the writer failed
+-- the head of a stream and the records in chunks were written, or the writer failed
 abbrev pub WritesRecords : {T : Type 0} → ℕ → List ℕ → List ℕ → Device → Device → Result T SendError → Type 0
 WritesRecords most id records old new (Ok done) = (body : List ℕ) × IsFrames records most body × Wrote old new (ok_text id ++ body)
 WritesRecords most id records old new (Err unsent.Write) = (body : List ℕ) × IsFrames records most body × ((fault : WriteFault) × Stopped old new (ok_text id ++ body) fault)

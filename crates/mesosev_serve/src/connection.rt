@@ -13,9 +13,9 @@ use mes_frame::{Sink, WriteFault, write_all};
 /// A connection that was served, and whose lines were printed.
 #[derive(Clone, Copy, Debug, PartialEq, Eq)]
 pub struct Served {
-    /// Whether the whole response was written; also true if no response was due, for example
-    /// because an allocation failed. False if `net write failed` was printed: an event could not be
-    /// encoded and nothing was written, or the writer failed or wrote 0 bytes.
+    /// True if the whole response was written, or if there was no response, for example because an
+    /// allocation failed. False if `net write failed` was printed: an event could not be encoded
+    /// and nothing was written, or the writer failed or wrote 0 bytes.
     pub answered: bool,
     /// The number of bytes of the printed lines.
     pub printed: u64,
@@ -39,7 +39,7 @@ pub(crate) fn report_served<O: Sink>(
     })
 }
 
-/// Returns whether the whole response was written.
+/// Returns whether the whole response was written; true if there was none.
 fn is_answered(sent: &Result<(), SendError>) -> bool
     ensures { result ≡ is_answered sent.now }
 {

@@ -12,11 +12,11 @@ use itoa::Buffer;
 /// The capacity for the lines of a connection, in bytes.
 pub(crate) const MAX_LINE_BUFFER: usize = 64;
 
-/// The printed line if a request or response could not be encoded or written, with LF.
+/// The printed line, with LF, if a request or response could not be encoded or written.
 pub const WRITE_FAILED: &str = "net write failed\n";
 
-/// Returns the lines of a connection: the status and the type of the call, each `-` if there is
-/// none. A second line is added if the response could not be encoded or written.
+/// Returns the lines of a connection: the status of the response, or `-`, and the type of the call,
+/// or `-`. A second line is added if the response could not be encoded or written.
 pub(crate) fn served_lines(
     reply: &Reply<'_>,
     asked: &ParsedRequest,
@@ -35,7 +35,7 @@ pub(crate) fn served_lines(
     }
 }
 
-/// Returns the line of a connection, followed by `more`.
+/// Returns the first line of a connection, followed by the text `more`.
 fn served_line(status: &str, name: &str, more: &str) -> ArrayString<MAX_LINE_BUFFER>
     requires status { length status.now ≤ 5 }
     requires name { length name.now ≤ 11 }

@@ -1,4 +1,4 @@
-//! The events of a new stream: the given ones that the test master sends.
+//! The given events that the test master sends on a new stream.
 
 ghost use Rattle.std.specs.Prelude.{◌≡◌, ◌≢◌, ◌⊎◌, [], ◌∷◌, ◌++◌, List, OnOk, OnErr, MatchResult};
 ghost use Rattle.mes_msg.specs.Event.{Event as EventValue};
@@ -30,7 +30,8 @@ pub(crate) fn send_all<'a>(
     Ok(())
 }
 
-/// Like [`send_all`], for one event. If an allocation fails, the master may have sent it or not.
+/// Like [`send_all`], for one event. If an allocation fails, the state of the master is that
+/// before or after the event is sent.
 fn send<'a>(master: &mut Master, given: &'a Event, sent: &mut Outgoing<'a>) -> Result<(), NoMemory>
     ensures ok { OnOk result (so_far sent.new master.new
         ≡ and_given (so_far sent.old master.old) given.now) }
@@ -46,7 +47,7 @@ fn send<'a>(master: &mut Master, given: &'a Event, sent: &mut Outgoing<'a>) -> R
     }
 }
 
-/// Appends the event, unless the master refused it.
+/// Appends the event that the master sent, unless the master refused it.
 fn put<'a, T: Drop>(
     reported: Result<T, MasterRefusal>,
     given: &'a Event,

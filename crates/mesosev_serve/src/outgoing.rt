@@ -8,8 +8,8 @@ use mes_stream::event_refs;
 use std::alloc::Global;
 use std::marker::Model;
 
-/// The events of a stream in order: the master's own, then references to the given events that are
-/// sent. In contracts its value is the list of events.
+/// The events of a stream in order: the master's own events, then references to the given events
+/// that are sent. In contracts an `Outgoing` has the list of these events as its value.
 #[derive(Drop)]
 pub(crate) struct Outgoing<'a> {
     own: Vec<Event>,

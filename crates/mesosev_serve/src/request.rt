@@ -15,14 +15,14 @@ use std::alloc::Global;
 pub(crate) enum ParsedRequest {
     /// No request was received, or it is invalid.
     NoRequest(HeadFault),
-    /// The body is not a call.
+    /// The body of the request is not a call.
     NoCall(RecordFault),
     /// A call, and the stream id of the request, if it has one.
     Calls(Option<StreamId>, Call),
 }
 
 impl ParsedRequest {
-    /// Returns the name of the call's type, or `-`.
+    /// Returns the name of the call's type, or `-` without a call.
     pub(crate) fn name(&self) -> &'static str
         ensures name { result.now ≡ asked_name self.now }
         ensures bound { length result.now ≤ 11 }

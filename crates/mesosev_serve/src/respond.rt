@@ -18,8 +18,8 @@ use mes_json::NoMemory;
 use mes_msg::{Call, Event, RecordFault};
 use std::alloc::Global;
 
-/// Returns the response to a request. `given` are the events for a stream. If an allocation fails,
-/// there is no response.
+/// Returns the response to a request, without a response if an allocation fails. `given` are the
+/// events to send on a stream that the request opens.
 pub(crate) fn reply_to<'a>(
     alloc: Global,
     master: &mut Master,
@@ -40,7 +40,7 @@ pub(crate) fn reply_to<'a>(
     }
 }
 
-/// Returns the response to an invalid request, or to none.
+/// Returns the response to an invalid request, or if no request was received.
 fn reply_to_fault<'a>(fault: HeadFault) -> Reply<'a>
     ensures { result ≡ reply_to_fault fault }
 {
@@ -62,7 +62,7 @@ fn reply_to_text<'a>(fault: &RecordFault) -> Reply<'a>
     }
 }
 
-/// Returns the response to a call with this stream id, or none.
+/// Returns the response to a call. `stream` is the stream id of the request, if it has one.
 fn reply_to_call<'a>(
     alloc: Global,
     master: &mut Master,

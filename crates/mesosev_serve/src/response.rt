@@ -11,7 +11,7 @@ use mes_double_http::StreamId;
 /// The response to a request.
 #[derive(Drop)]
 pub(crate) enum Reply<'a> {
-    /// None: the connection is closed.
+    /// No response: the connection is closed.
     Nothing,
     /// A status without a body.
     Status(StatusCode),
@@ -20,7 +20,7 @@ pub(crate) enum Reply<'a> {
 }
 
 impl<'a> Reply<'a> {
-    /// Returns the status, formatted in the buffer, or `-`.
+    /// Returns the status, formatted in the buffer; `-` if there is no response.
     pub(crate) fn name<'b>(&self, digits: &'b mut Buffer) -> &'b str
         ensures name { result.now ≡ reply_name self.now }
         ensures bound { length result.now ≤ 5 }

@@ -52,8 +52,8 @@ impl From<SendFault> for SendError {
     }
 }
 
-/// Writes a response; a stream is written in chunks of `most` bytes. All its events are encoded
-/// before the first byte is written.
+/// Writes a response. A stream is written in chunks of `most` bytes, and all events of the stream
+/// are encoded before the first byte is written.
 pub(crate) fn write_reply<W: Sink>(
     alloc: Global,
     reply: &Reply<'_>,

@@ -13,20 +13,20 @@ use mes_msg::Event;
 use mesosev_stream::ChunkSize;
 use std::alloc::Global;
 
-/// Serves one connection: reads a request, writes the response, and prints its line.
+/// Serves one connection: reads a request, writes the response, and prints the connection's lines.
 ///
 /// - Another path: 404. Another method: 405.
 /// - A reader that fails or ends inside the body: no response.
 /// - Any other invalid request, or a body that is not a call: 400.
-/// - A call: the status of the test master. If that is 200, the stream follows.
+/// - A call: the status that the test master returns. With status 200 the stream follows.
 ///
 /// A stream is written in chunks of `most` bytes: SUBSCRIBED, then `events`. OFFERS, RESCIND and
-/// UPDATE go through the master. Events that it refuses and SUBSCRIBED are skipped. Each event is
-/// sent at most once, in order, and no RESCIND is repeated (`serve_laws`). All events are encoded
-/// before the first byte is written.
+/// UPDATE go through the master. Events that the master refuses and SUBSCRIBED are skipped. Each
+/// event is sent at most once, in order, and no RESCIND is repeated (`serve_laws`). All events are
+/// encoded before the first byte is written.
 ///
-/// If an allocation fails before that, there is no response. Errors: the line was not printed
-/// completely.
+/// If an allocation fails before the first byte is written, there is no response. Errors: the lines
+/// were not printed completely.
 pub fn serve_one<R: Source, W: Sink, O: Sink>(
     alloc: Global,
     master: &mut Master,

@@ -27,13 +27,13 @@ const MAX_REFUSED_LINE: usize = 40;
 /// Sends SUBSCRIBE to a master, and prints the events of the stream as they arrive. `host` has 1 to
 /// `MAX_HOST` visible ASCII characters.
 ///
-/// It reads the head of the response, then the body in at most `max_reads` reads (`MAX_READS` or
+/// Reads the head of the response, then the body in at most `max_reads` reads (`MAX_READS` or
 /// fewer). The last line has the numbers of events and bytes of the body, or the first error.
 /// Buffers the events of one read.
 ///
-/// A head that opens no stream is printed, for example `refused H4 Status 403`, and nothing after
-/// it is read. If the SUBSCRIBE cannot be encoded or written, it prints `net write failed` and
-/// reads nothing.
+/// If the head opens no stream, prints the reason, for example `refused H4 Status 403`, and reads
+/// nothing after the head. If the SUBSCRIBE cannot be encoded or written, prints `net write failed`
+/// and reads nothing.
 pub fn subscribe_over<R: Source, W: Sink, O: Sink>(
     alloc: Global,
     info: &FrameworkInfo,
@@ -70,7 +70,7 @@ pub fn send_subscribe<W: Sink>(
     requires least { 1 ≤ length host.now }
     requires greatest { length host.now ≤ MAX_HOST }
     requires visible { All IsVisible host.now }
-    // On success: the whole request was written. Each error, and when.
+    // On success: the whole request was written. Then: when each error is returned.
     ensures { SendsSubscribe info.now host.now (device_of W.written W.counts writer.old)
         (device_of W.written W.counts writer.new) result }
 {
@@ -81,8 +81,8 @@ pub fn send_subscribe<W: Sink>(
 }
 
 /// Reads the response to a SUBSCRIBE, and prints the events of its stream as they arrive. The head
-/// is read one byte at a time, the body in at most `max_reads` reads (`MAX_READS` or fewer). A head
-/// that opens no stream is printed.
+/// is read one byte at a time, the body in at most `max_reads` reads (`MAX_READS` or fewer). If the
+/// head opens no stream, prints the reason.
 pub fn show_answer<R: Source, O: Sink>(
     alloc: Global,
     reader: &mut R,
@@ -139,7 +139,7 @@ pub fn report_unsent<O: Sink>(out: &mut O, fault: &SendFault) -> RunOutcome
     }
 }
 
-/// Prints a refused head. The status is `Fault`.
+/// Prints the reason for which a head opens no stream. The status is `Fault`.
 fn report_refused<O: Sink>(out: &mut O, fault: &HeadFault) -> RunOutcome
     ensures { Prints (device_of O.written O.counts out.old) (device_of O.written O.counts out.new)
         (refused_line fault.now) ExitStatus.Fault result }

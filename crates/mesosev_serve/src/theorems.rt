@@ -1,4 +1,4 @@
-//! Laws of a served connection. The function does nothing; its contract has the laws.
+//! Laws of a served connection. The function does nothing; its contract states the laws.
 ghost use Rattle.std.specs.Prelude.{◌≡◌, ◌∷◌, ◌++◌, ℕ, true, List, Option as option, IsSome};
 ghost use Rattle.mes_model.specs.Id.{Id};
 ghost use Rattle.mes_msg.specs.Call.{Call};
@@ -9,10 +9,10 @@ ghost use Rattle.mesosev_serve.specs.Opening.{and_all_given, opening};
 
 /// Proves the laws of a served connection.
 ///
-/// - A master answers only SUBSCRIBE with 200, and then has a current stream.
+/// - A master responds with status 200 only to SUBSCRIBE, and then has a current stream.
 /// - The stream has SUBSCRIBED and then some of the given events, in order, each at most once.
 /// - No offer of the stream was made before.
-/// - A RESCIND names an offer of the stream, and no two name the same one (`IsOneStream`).
+/// - A RESCIND names an offer of the stream, and no offer is named by two (`IsOneStream`).
 pub fn serve_laws()
     // After status 200 the master has a current stream.
     ensures stream { (m : MasterState) (call : Call) (given : option (List ℕ))

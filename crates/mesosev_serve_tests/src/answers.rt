@@ -15,7 +15,7 @@ const ENDS: [usize; 2] = [108, 131];
 // The length of the body of `STREAM` in bytes.
 const BODY: u32 = 138;
 
-// A response, and what is printed for it, followed by the status if it is 1.
+// Each row: a response, the text printed for it, and the exit status if it is 1.
 const ANSWERS: &str =
     r#"HTTP/1.1 200 OK|Content-Type: application/json|Transfer-Encoding: chunked|Mesos-Stream-Id: s1||7f|100~{"type":"SUBSCRIBED","subscribed":{"framework_id":{"value":"F1"},"heartbeat_interval_seconds":15.0}}20~{"type":"HEARTBEAT"}|0|| => 1 SUBSCRIBED "F1" 15.0~2 HEARTBEAT~events 2 bytes 138~
 HTTP/1.1 200 OK|CONTENT-TYPE: Application/JSON; charset=utf-8|transfer-encoding: CHUNKED|mEsOs-StReAm-Id: s1|Content-Length: 3||7f|100~{"type":"SUBSCRIBED","subscribed":{"framework_id":{"value":"F1"},"heartbeat_interval_seconds":15.0}}20~{"type":"HEARTBEAT"}|0|| => 1 SUBSCRIBED "F1" 15.0~2 HEARTBEAT~events 2 bytes 138~
@@ -41,7 +41,7 @@ HTTP/1.1 200 OK| => refused H3 BadHead~ 1
  => refused H3 BadHead~ 1
 x => refused H3 BadHead~ 1"#;
 
-// `most` is the largest read in bytes.
+// Returns the text printed for a response; `most` is the largest read in bytes.
 fn printed(alloc: Global, answer: &[u8], most: usize) -> Result<String, Fail> {
     shown(alloc, &mut MemorySource::new(answer, most), 1_000)
 }
@@ -59,7 +59,8 @@ fn answers_are_shown(rt: HostRuntime) -> Result<(), Fail> {
     Ok(())
 }
 
-// The lines of the events whose records end within `bytes` bytes of the body, then `last`.
+// Returns the lines of the events whose records end in the first `bytes` bytes of the body, then
+// `last`.
 fn lines_and(alloc: Global, bytes: usize, last: &str) -> Result<String, Fail> {
     let mut lines = String::new(alloc);
     if ENDS[0] <= bytes {
@@ -72,14 +73,14 @@ fn lines_and(alloc: Global, bytes: usize, last: &str) -> Result<String, Fail> {
     Ok(lines)
 }
 
-// The output if the error occurs at offset `bytes` of the body.
+// Returns the expected output if the error `fault` occurs after `bytes` bytes of the body.
 fn broken(alloc: Global, fault: &str, bytes: usize) -> Result<String, Fail> {
     let last = format!(in alloc; "fault {fault} after {bytes}~ 1")?;
     lines_and(alloc, bytes, last.as_str())
 }
 
-// The output if the response ends at offset `bytes`: the error `head` in the head, `stream` in the
-// body.
+// Returns the expected output if the response ends after `bytes` bytes: the error is `head` in the
+// head, and `stream` in the body.
 fn early(alloc: Global, head: &str, stream: &str, bytes: usize) -> Result<String, Fail> {
     if bytes < HEAD {
         return Ok(format!(in alloc; "refused {head}~ 1")?);
@@ -99,7 +100,7 @@ fn an_answer_that_ends_early_shows_the_events_before(rt: HostRuntime) -> Result<
     Ok(())
 }
 
-// Each read after `good` bytes fails.
+// Each read after the first `good` bytes of the response fails.
 fn failing(alloc: Global, answer: &[u8], good: usize) -> Result<String, Fail> {
     shown(
         alloc,
@@ -119,7 +120,7 @@ fn an_answer_whose_reader_fails_shows_the_events_before(rt: HostRuntime) -> Resu
     Ok(())
 }
 
-// One byte a read, and at most `max_reads` reads after the head.
+// Reads one byte at a time, with at most `max_reads` reads after the head.
 fn spent(alloc: Global, answer: &[u8], max_reads: u32) -> Result<String, Fail> {
     shown(alloc, &mut MemorySource::new(answer, 1), max_reads)
 }

@@ -1,4 +1,4 @@
-//! Served connections that break at each byte: the reader ends or fails, the writer stops, or the
+//! Served connections that fail at each byte: the reader ends or fails, the writer stops, or the
 //! lines cannot be printed.
 
 use crate::support::{
@@ -24,7 +24,7 @@ fn a_request_that_ends_early_is_refused_or_dropped(rt: HostRuntime) -> Result<()
     Ok(())
 }
 
-// Each read after `good` bytes fails.
+// Each read after the first `good` bytes of the request fails.
 fn failing(alloc: Global, request: &[u8], good: usize) -> Result<String, Fail> {
     served_anew(alloc, &mut MemorySource::failing_after(request, 7, good))
 }
@@ -39,7 +39,7 @@ fn a_request_whose_reader_fails_is_dropped(rt: HostRuntime) -> Result<(), Fail> 
     Ok(())
 }
 
-// The stream has a HEARTBEAT.
+// Serves one request. A stream has a HEARTBEAT after SUBSCRIBED.
 fn answered(
     alloc: Global,
     request: &[u8],
@@ -51,8 +51,8 @@ fn answered(
     serve_anew(alloc, events.as_slice(), 4_096, &mut source, writer, out)
 }
 
-// Returns the printed lines. The writer stops after `good` bytes, and must have exactly those; the
-// number of printed bytes must be returned.
+// Returns the printed lines. The writer stops after `good` bytes, and must have received exactly
+// these; `serve_one` must return the number of printed bytes.
 fn stopped(
     alloc: Global,
     request: &[u8],
@@ -109,8 +109,8 @@ fn a_status_whose_writer_stops_is_reported(rt: HostRuntime) -> Result<(), Fail> 
     expect_stops(&rt, "POST /x HTTP/1.1||", answer, "404 -~net write failed~")
 }
 
-// Whether the whole stream is written if the output stops after `good` bytes, and that number is
-// returned.
+// Returns whether the whole stream is written, and `good` is returned, if the output stops after
+// `good` bytes.
 fn unreported(alloc: Global, stream: &[u8], good: usize, stop: MemoryStop) -> Result<bool, Fail> {
     let request = bytes_of(alloc, SUBSCRIBE_REQUEST)?;
     let mut writer = MemorySink::new(alloc, 64);

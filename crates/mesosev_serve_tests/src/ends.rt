@@ -1,5 +1,5 @@
-//! A SUBSCRIBE that is sent and its stream that is printed, if one end stops or fails at each byte;
-//! and both ends together.
+//! `subscribe_over`, which sends a SUBSCRIBE and prints the stream, if a device stops or fails at
+//! each byte; and both ends of a connection together.
 
 use crate::support::{
     SHOWN, STREAM, SUBSCRIBE_REQUEST, bytes_of, events_of, framework, leaves, printed_of,
@@ -14,7 +14,7 @@ use mesosev_stream::RunOutcome;
 use std::alloc::Global;
 use std::test::Fail;
 
-// Subscribes at the host `h`.
+// Sends a SUBSCRIBE to the host `h`, and prints the response.
 fn subscribed(
     alloc: Global,
     info: &FrameworkInfo,
@@ -25,7 +25,7 @@ fn subscribed(
     subscribe_over(alloc, info, "h", source, writer, 1_000, out)
 }
 
-// The output, and the status if it is not 0.
+// Returns the output, and the exit status if it is not 0.
 fn printed(
     alloc: Global,
     source: &mut MemorySource<'_>,
@@ -63,7 +63,7 @@ fn a_stream_is_shown(rt: HostRuntime) -> Result<(), Fail> {
     Ok(())
 }
 
-// One byte a read, so that one read too many would be detected.
+// With one byte for each read, one read too many would be detected.
 #[test]
 fn what_stands_behind_a_stream_is_not_read(rt: HostRuntime) -> Result<(), Fail> {
     let answer = format!(in rt.alloc(); "{STREAM}X")?;
@@ -80,8 +80,8 @@ fn nothing_is_read_behind_a_head_that_is_refused(rt: HostRuntime) -> Result<(), 
     Ok(())
 }
 
-// Returns the output. The writer stops after `good` bytes, and must have exactly those; nothing may
-// be read.
+// Returns the output. The writer stops after `good` bytes, and must have received exactly these;
+// nothing may be read.
 fn unsent(alloc: Global, request: &[u8], good: usize, stop: MemoryStop) -> Result<String, Fail> {
     let mut source = MemorySource::new(b"HTTP/1.1 200 OK", 64);
     let mut writer = MemorySink::stopping_after(alloc, 64, good, stop);
@@ -115,7 +115,7 @@ fn large_framework(alloc: Global) -> Result<FrameworkInfo, Fail> {
     Ok(info)
 }
 
-// Returns the output; nothing may be written or read.
+// Returns the output for `large_framework`; nothing may be written or read.
 fn large(alloc: Global) -> Result<String, Fail> {
     let info = large_framework(alloc)?;
     let mut source = MemorySource::new(b"HTTP/1.1 200 OK", 64);
@@ -134,7 +134,7 @@ fn a_subscribe_that_is_too_large_is_not_written(rt: HostRuntime) -> Result<(), F
     Ok(())
 }
 
-// Whether the output has exactly `good` bytes if it fails after those.
+// Returns whether exactly `good` bytes are printed if the output fails after `good` bytes.
 fn is_cut(alloc: Global, answer: &[u8], lines: &[u8], good: usize) -> Result<bool, Fail> {
     let info = framework(alloc)?;
     let mut source = MemorySource::new(answer, 7);
@@ -155,7 +155,7 @@ fn an_output_that_fails_has_the_bytes_before(rt: HostRuntime) -> Result<(), Fail
     Ok(())
 }
 
-// The output for a SUBSCRIBE that was not sent, and the status.
+// Returns the output for a SUBSCRIBE that was not sent, and the exit status.
 fn reported(alloc: Global, fault: SendFault) -> Result<String, Fail> {
     let mut out = MemorySink::new(alloc, 5);
     let ended = report_unsent(&mut out, &fault);
@@ -184,7 +184,7 @@ fn sent(alloc: Global, writer: &mut MemorySink) -> Result<(), Fail> {
     }
 }
 
-// The stream has a HEARTBEAT.
+// The stream has a HEARTBEAT after SUBSCRIBED.
 fn answered(alloc: Global, request: &[u8], writer: &mut MemorySink) -> Result<(), Fail> {
     let events = events_of(alloc, r#"{"type":"HEARTBEAT"}"#)?;
     let mut source = MemorySource::new(request, 64);

@@ -1,5 +1,5 @@
 //! Tests of the crate `mesosev_serve` through its public functions, on devices in memory: tables of
-//! requests with the responses and the printed lines, and connections that break at each byte.
+//! requests with the responses and the printed lines, and connections that fail at each byte.
 #![tactic(auto)]
 
 #[cfg(test)]

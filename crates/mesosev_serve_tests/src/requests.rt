@@ -1,11 +1,12 @@
-//! Requests served: each row has the request, the response, and the printed lines.
+//! Served requests. Each row of a table has a request, the response, and the printed lines.
 
 use crate::support::{BAD, bytes_of, expect_calls, leaves, row_of, served_anew};
 use mes_frame::MemorySource;
 use std::alloc::Global;
 use std::test::Fail;
 
-// Calls to one master, each after the id of the stream that it names, or `-`.
+// Calls to one master in order. Each row: the stream id that the request names, or `-`, the call,
+// the response, and the printed line.
 const CALLS: &str =
     r#"s1 {"type":"REVIVE","framework_id":{"value":"F1"}} => HTTP/1.1 403 Forbidden|Content-Length: 0|Connection: close|| => 403 REVIVE~
 - {"type":"SUBSCRIBE","subscribe":{"framework_info":{"user":"root","name":"n"}}} => HTTP/1.1 200 OK|Content-Type: application/json|Transfer-Encoding: chunked|Mesos-Stream-Id: 00000000-0000-4000-8000-000000000001||68|100~{"type":"SUBSCRIBED","subscribed":{"framework_id":{"value":"F1"},"heartbeat_interval_seconds":15.0}}|0|| => 200 SUBSCRIBE~
@@ -27,7 +28,8 @@ s1 {"type":"REVIVE","framework_id":{"value":"F1"}} => HTTP/1.1 400 Bad Request|C
 00000000-0000-4000-8000-000000000001 {"type":"REVIVE","framework_id":{"value":"F1"}} => HTTP/1.1 403 Forbidden|Content-Length: 0|Connection: close|| => 403 REVIVE~
 - {"type":"SUBSCRIBE","subscribe":{"framework_info":{"user":"root","name":"n"}}} => HTTP/1.1 403 Forbidden|Content-Length: 0|Connection: close|| => 403 SUBSCRIBE~"#;
 
-// Requests to a master without a stream. The first reason to reject a request decides its status.
+// Requests to a master without a stream. The first reason to reject a request determines the status
+// of the response.
 const REQUESTS: &str =
     r#"POST /x HTTP/1.1|Host: 127.0.0.1:5050|Content-Type: application/json|Accept: application/json|Mesos-Stream-Id: s1|Connection: close|Content-Length: 47||{"type":"REVIVE","framework_id":{"value":"F1"}} => HTTP/1.1 404 Not Found|Content-Length: 0|Connection: close|| => 404 -~
 GET /api/v1/scheduler HTTP/1.1|Host: 127.0.0.1:5050|Content-Type: application/json|Accept: application/json|Mesos-Stream-Id: s1|Connection: close|Content-Length: 47||{"type":"REVIVE","framework_id":{"value":"F1"}} => HTTP/1.1 405 Method Not Allowed|Content-Length: 0|Connection: close|| => 405 -~
@@ -55,7 +57,7 @@ fn calls_are_answered(rt: HostRuntime) -> Result<(), Fail> {
     expect_calls(&rt, &[], CALLS)
 }
 
-// The master has no stream.
+// Returns the response of a master without a stream, and the printed lines.
 fn reported(alloc: Global, request: &str, most: usize) -> Result<String, Fail> {
     let bytes = bytes_of(alloc, request)?;
     served_anew(alloc, &mut MemorySource::new(bytes.as_slice(), most))
@@ -76,7 +78,7 @@ fn requests_are_answered(rt: HostRuntime) -> Result<(), Fail> {
     Ok(())
 }
 
-// Exactly `taken` must be read, and `following` must remain.
+// Like `reported`. Exactly the bytes `taken` must be read, and `following` must remain unread.
 fn told_of(alloc: Global, taken: &[u8], following: &[u8]) -> Result<String, Fail> {
     let mut bytes = Vec::new(alloc);
     bytes.extend_from_slice(taken)?;

@@ -9,9 +9,9 @@ use mes_msg::Event;
 use std::alloc::Global;
 use std::test::Fail;
 
-// The events of each stream. A SUBSCRIBED is skipped, and so is each event that the master rejects:
-// an offer that is unknown, already rescinded or repeated, and an update that is already
-// unacknowledged.
+// The given events for each stream. SUBSCRIBED is skipped, and so is each event that the master
+// refuses: a RESCIND of an offer that is unknown or already rescinded, an offer that is repeated,
+// and an update that is already unacknowledged.
 const GIVEN: &str =
     r#"{"type":"SUBSCRIBED","subscribed":{"framework_id":{"value":"F1"},"heartbeat_interval_seconds":15.0}}
 {"type":"RESCIND","rescind":{"offer_id":{"value":"O1"}}}
@@ -23,28 +23,28 @@ const GIVEN: &str =
 {"type":"UPDATE","update":{"status":{"task_id":{"value":"T1"},"state":"TASK_RUNNING","agent_id":{"value":"A1"},"uuid":"AAECAwQFBgcICQoLDA0ODw=="}}}
 {"type":"HEARTBEAT"}"#;
 
-// Two streams. The RECONCILE between them has no events, and the second stream gets none of the
-// first one's.
+// Two streams. The response to the RECONCILE between them has no events, and no event of the first
+// stream is sent on the second.
 const SERVED: &str =
     r#"- {"type":"SUBSCRIBE","subscribe":{"framework_info":{"user":"root","name":"n"}}} => HTTP/1.1 200 OK|Content-Type: application/json|Transfer-Encoding: chunked|Mesos-Stream-Id: 00000000-0000-4000-8000-000000000001||1d9|100~{"type":"SUBSCRIBED","subscribed":{"framework_id":{"value":"F1"},"heartbeat_interval_seconds":15.0}}132~{"type":"OFFERS","offers":{"offers":[{"id":{"value":"O1"},"framework_id":{"value":"F1"},"agent_id":{"value":"A1"},"hostname":"h"}]}}56~{"type":"RESCIND","rescind":{"offer_id":{"value":"O1"}}}147~{"type":"UPDATE","update":{"status":{"task_id":{"value":"T1"},"state":"TASK_RUNNING","agent_id":{"value":"A1"},"uuid":"AAECAwQFBgcICQoLDA0ODw=="}}}20~{"type":"HEARTBEAT"}|0|| => 200 SUBSCRIBE~
 00000000-0000-4000-8000-000000000001 {"type":"RECONCILE","framework_id":{"value":"F1"},"reconcile":{}} => HTTP/1.1 202 Accepted|Content-Length: 0|Connection: close|| => 202 RECONCILE~
 - {"type":"SUBSCRIBE","subscribe":{"framework_info":{"user":"root","name":"n"}}} => HTTP/1.1 200 OK|Content-Type: application/json|Transfer-Encoding: chunked|Mesos-Stream-Id: 00000000-0000-4000-8000-000000000002||7f|100~{"type":"SUBSCRIBED","subscribed":{"framework_id":{"value":"F1"},"heartbeat_interval_seconds":15.0}}20~{"type":"HEARTBEAT"}|0|| => 200 SUBSCRIBE~
 - {"type":"SUBSCRIBE","subscribe":{"framework_info":{"user":"root","name":"n"}}} => HTTP/1.1 403 Forbidden|Content-Length: 0|Connection: close|| => 403 SUBSCRIBE~"#;
 
-// A SUBSCRIBE opens a stream, whichever stream it names; the previous one is then no longer
-// current.
+// A SUBSCRIBE opens a new stream, whichever stream id the request names; the previous stream is
+// then no longer current.
 const NAMED: &str =
     r#"s1 {"type":"SUBSCRIBE","subscribe":{"framework_info":{"user":"root","name":"n"}}} => HTTP/1.1 200 OK|Content-Type: application/json|Transfer-Encoding: chunked|Mesos-Stream-Id: 00000000-0000-4000-8000-000000000001||68|100~{"type":"SUBSCRIBED","subscribed":{"framework_id":{"value":"F1"},"heartbeat_interval_seconds":15.0}}|0|| => 200 SUBSCRIBE~
 00000000-0000-4000-8000-000000000001 {"type":"SUBSCRIBE","subscribe":{"framework_info":{"user":"root","name":"n"}}} => HTTP/1.1 200 OK|Content-Type: application/json|Transfer-Encoding: chunked|Mesos-Stream-Id: 00000000-0000-4000-8000-000000000002||68|100~{"type":"SUBSCRIBED","subscribed":{"framework_id":{"value":"F1"},"heartbeat_interval_seconds":15.0}}|0|| => 200 SUBSCRIBE~
 00000000-0000-4000-8000-000000000001 {"type":"REVIVE","framework_id":{"value":"F1"}} => HTTP/1.1 400 Bad Request|Content-Length: 0|Connection: close|| => 400 REVIVE~
 00000000-0000-4000-8000-000000000002 {"type":"REVIVE","framework_id":{"value":"F1"}} => HTTP/1.1 202 Accepted|Content-Length: 0|Connection: close|| => 202 REVIVE~"#;
 
-// A SUBSCRIBE opens its stream even if the stream cannot be encoded.
+// A SUBSCRIBE opens a stream even if the events of the stream cannot be encoded.
 const UNWRITTEN: &str =
     r#"- {"type":"SUBSCRIBE","subscribe":{"framework_info":{"user":"root","name":"n"}}} =>  => 200 SUBSCRIBE~net write failed~
 00000000-0000-4000-8000-000000000001 {"type":"REVIVE","framework_id":{"value":"F1"}} => HTTP/1.1 202 Accepted|Content-Length: 0|Connection: close|| => 202 REVIVE~"#;
 
-// A SUBSCRIBED and a HEARTBEAT in chunks of 100 bytes.
+// A response with a SUBSCRIBED and a HEARTBEAT in chunks of 100 bytes.
 const IN_TWO: &str =
     r#"HTTP/1.1 200 OK|Content-Type: application/json|Transfer-Encoding: chunked|Mesos-Stream-Id: 00000000-0000-4000-8000-000000000001||64|100~{"type":"SUBSCRIBED","subscribed":{"framework_id":{"value":"F1"},"heartbeat_interval_seconds":15|1b|.0}}20~{"type":"HEARTBEAT"}|0||"#;
 
@@ -66,8 +66,8 @@ fn push_times(text: &mut String, piece: &str, count: usize) -> Result<(), Fail> 
     Ok(())
 }
 
-// Offers that can be read, but nest too deep in the canonical text, which has one more object
-// around them.
+// Offers that can be decoded, but nest too deep in the canonical text, which has one more object
+// around the offers.
 fn deep_offers(alloc: Global) -> Result<Event, Fail> {
     let mut text = String::new(alloc);
     text.push_str(
@@ -87,7 +87,7 @@ fn a_stream_that_cant_be_encoded_is_not_begun(rt: HostRuntime) -> Result<(), Fai
     expect_calls(&rt, events.as_slice(), UNWRITTEN)
 }
 
-// Whether the response to a SUBSCRIBE, in chunks of `most` bytes, is `stream`.
+// Returns whether the response to a SUBSCRIBE, in chunks of `most` bytes, is `stream`.
 fn writes(alloc: Global, events: &[Event], most: u32, stream: &str) -> Result<bool, Fail> {
     let request = bytes_of(alloc, SUBSCRIBE_REQUEST)?;
     let expected = bytes_of(alloc, stream)?;

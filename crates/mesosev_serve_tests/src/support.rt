@@ -1,7 +1,8 @@
-//! Helpers of the tests: texts of tables, and runs of both ends.
+//! Helpers of the tests: texts in tables of tests, and functions that run either end of a
+//! connection.
 //!
-//! In a table `|` represents CR LF and `~` LF. The result of a connection is the response and the
-//! printed lines: `HTTP/1.1 404 Not Found|.. => 404 -~`.
+//! In a table of tests `|` represents CR LF and `~` LF. The result of a connection is the response
+//! and the printed lines: `HTTP/1.1 404 Not Found|.. => 404 -~`.
 
 use mes_double_master::Master;
 use mes_frame::{MemorySink, MemorySource, Source};
@@ -15,7 +16,7 @@ use std::process::Abort;
 use std::test::Fail;
 use uuid::Uuid;
 
-/// A SUBSCRIBE.
+/// A SUBSCRIBE call.
 pub(crate) const SUBSCRIBE: &str =
     r#"{"type":"SUBSCRIBE","subscribe":{"framework_info":{"user":"root","name":"n"}}}"#;
 
@@ -27,19 +28,19 @@ pub(crate) const SUBSCRIBE_REQUEST: &str =
 pub(crate) const STREAM: &str =
     r#"HTTP/1.1 200 OK|Content-Type: application/json|Transfer-Encoding: chunked|Mesos-Stream-Id: 00000000-0000-4000-8000-000000000001||7f|100~{"type":"SUBSCRIBED","subscribed":{"framework_id":{"value":"F1"},"heartbeat_interval_seconds":15.0}}20~{"type":"HEARTBEAT"}|0||"#;
 
-/// The lines that are printed for `STREAM`.
+/// The lines that `subscribe_over` prints for `STREAM`.
 pub(crate) const SHOWN: &str = r#"1 SUBSCRIBED "F1" 15.0~2 HEARTBEAT~events 2 bytes 138~"#;
 
 /// The result for a request whose head is rejected with status 400.
 pub(crate) const BAD: &str =
     "HTTP/1.1 400 Bad Request|Content-Length: 0|Connection: close|| => 400 -~";
 
-/// Splits a row into its two sides.
+/// Splits a row of a table of tests at its first ` => `.
 pub(crate) fn row_of(line: &str) -> Result<(&str, &str), Fail> {
     Ok(line.split_once(" => ").ok_or("a row has two sides")?)
 }
 
-/// Converts a text of a table into bytes.
+/// Converts a text from a table of tests into bytes.
 pub(crate) fn bytes_of(alloc: Global, text: &str) -> Result<Vec<u8>, Fail> {
     let mut bytes = Vec::new(alloc);
     for byte in text.as_bytes() {
@@ -52,7 +53,7 @@ pub(crate) fn bytes_of(alloc: Global, text: &str) -> Result<Vec<u8>, Fail> {
     Ok(bytes)
 }
 
-/// Appends bytes as a text of a table.
+/// Appends bytes in the notation of a table of tests.
 pub(crate) fn push_bytes(text: &mut String, bytes: &[u8]) -> Result<(), Fail> {
     for byte in bytes {
         match *byte {
@@ -64,7 +65,7 @@ pub(crate) fn push_bytes(text: &mut String, bytes: &[u8]) -> Result<(), Fail> {
     Ok(())
 }
 
-// The LF of a CR LF was appended with its CR.
+// Appends `~`, unless the LF follows a CR: the `|` of the CR represents both.
 fn push_line_feed(text: &mut String) -> Result<(), Fail> {
     if !text.ends_with('|') {
         text.push('~')?;
@@ -114,7 +115,7 @@ fn call_of(alloc: Global, text: &str) -> Result<Call, Fail> {
     }
 }
 
-// Fails if the call is not a SUBSCRIBE.
+// Returns the framework of a SUBSCRIBE; any other call is an error.
 fn framework_of(alloc: Global, call: &Call) -> Result<FrameworkInfo, Fail> {
     match call {
         Call::Subscribe { body, .. } => Ok(body.framework_info.copy(alloc)?),
@@ -130,7 +131,7 @@ pub(crate) fn framework(alloc: Global) -> Result<FrameworkInfo, Fail> {
     framework
 }
 
-// The request names no stream if `stream` is `-`.
+// Returns a request with the call. The request names no stream if `stream` is `-`.
 fn request_of(alloc: Global, stream: &str, call: &str) -> Result<Vec<u8>, Fail> {
     let mut text = String::new(alloc);
     text.push_str("POST /api/v1/scheduler HTTP/1.1|Host: 127.0.0.1:5050|")?;
@@ -143,8 +144,8 @@ fn request_of(alloc: Global, stream: &str, call: &str) -> Result<Vec<u8>, Fail> 
     bytes_of(alloc, text.as_str())
 }
 
-// Returns whether a response was sent, and the number of printed bytes; or the number of bytes
-// after which the output stopped. `most` is the size of a chunk in bytes.
+// Serves one connection. Returns whether a response was sent, and the number of printed bytes; or
+// the number of bytes after which the output stopped. `most` is the size of a chunk in bytes.
 fn serve(
     alloc: Global,
     master: &mut Master,
@@ -210,14 +211,15 @@ fn served(
     Ok(text)
 }
 
-/// Returns whether the next read of at most 4,096 bytes gives `bytes`.
+/// Returns whether the next read of at most 4,096 bytes returns `bytes`.
 pub(crate) fn leaves(source: &mut MemorySource<'_>, bytes: &[u8]) -> Result<bool, Fail> {
     let mut buffer = [0; 4_096];
     let count = source.fetch(&mut buffer)?;
     Ok(buffer.get(..count) == Some(bytes))
 }
 
-// The row is `STREAM CALL`; the request arrives in reads of 7 bytes.
+// Returns the result for a request. The text `row` is `STREAM CALL`: the stream id that the request
+// names, and the call. The request arrives in reads of 7 bytes.
 fn called(alloc: Global, master: &mut Master, events: &[Event], row: &str) -> Result<String, Fail> {
     let (stream, call) = row.split_once(" ").ok_or("a call names a stream")?;
     let request = request_of(alloc, stream, call)?;
@@ -239,7 +241,8 @@ fn expect_rows<R: Abort + AllocGlobal>(
     Ok(())
 }
 
-/// Checks each row of the table against one master, in order.
+/// Sends the call of each row of a table of tests to one master, in order, and compares the
+/// results.
 pub(crate) fn expect_calls<R: Abort + AllocGlobal>(
     rt: &R,
     events: &[Event],
@@ -251,8 +254,8 @@ pub(crate) fn expect_calls<R: Abort + AllocGlobal>(
     answer
 }
 
-/// Returns the output for a response, with at most `max_reads` reads after the head, and the status
-/// if it is not 0.
+/// Returns the output for a response, and the exit status if it is not 0. At most `max_reads` reads
+/// are made after the head.
 pub(crate) fn shown(
     alloc: Global,
     source: &mut MemorySource<'_>,
@@ -272,7 +275,7 @@ fn answered(
     show_answer(alloc, source, max_reads as u64, out)
 }
 
-/// Returns the output, and the status if it is not 0.
+/// Returns the output, and the exit status if it is not 0.
 pub(crate) fn printed_of(
     alloc: Global,
     out: &MemorySink,

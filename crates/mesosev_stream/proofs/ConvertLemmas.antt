@@ -1,4 +1,4 @@
--- The events sent, stated of the devices.
+-- The effect of `convert` on the devices, from the contracts of reading and writing events.
 use Rattle.std.proofs.Common.{◌≡◌, ℕ, ◌∷◌, ◌++◌, [], Option, List, Result, ap, ◌∙◌, subst, inl, inr, refl}
 use Rattle.std.specs.Io.KnownBytes.{Consumes}
 use Rattle.mes_frame.specs.declared.counts.Counts.{Counts}

@@ -17,7 +17,7 @@ records_few limit b (e ∷ es) (front, rest, r, is, spells, spelt, following) =
     let some = ap length is.spelt ∙ length-append is.size (10 ∷ r) in
     omega (arith, fewer, whole, some)
 
--- a chunked body has at most as many bytes of data as bytes
+-- the data of chunks have at most as many bytes as the chunks
 data_few : (chunks : List Chunk) → length (data_of chunks) ≤ length (chunks_bytes chunks)
 data_few [] = omega arith
 data_few (c ∷ cs) =

@@ -50,7 +50,8 @@ use Rattle.mesosev_stream.specs.declared.line_buffer.LineBuffer.{LineBuffer}
 use Rattle.mesosev_stream.proofs.FewEvents.{goes_few, ends_few}
 use Rattle.mesosev_stream.proofs.ShowLemmas.{goes_counted, goes_then_stops, prints_behind, lines_both}
 
--- a piece was consumed; `IsEventRefusal` permits that the list of events could not grow
+-- the result for a piece also holds without `IsRefused`: `IsEventRefusal` already permits that the
+-- list of events could not grow
 pub events_taken : (d new : Reading EventReader) (piece : List ℕ) (old now : List Event) (fed : Result (Unit {0}) ReadingStop)
     → ((ahead : Ahead) (framing : Framing) (limit : ℕ) (v : List ℕ) (values : List Event) → ReadingRepresentsAfter HoldsData Spells ahead d framing limit v values
     → ReadingTakesAfter HoldsData Spells (IsRefused Spells IsEventRefusal) ahead new framing limit v values piece old now fed)
@@ -58,7 +59,7 @@ pub events_taken : (d new : Reading EventReader) (piece : List ℕ) (old now : L
 events_taken d new piece old now fed takes framing limit v values represents =
     takes_wider Spells (IsRefused Spells IsEventRefusal) IsEventRefusal refused_of HoldsData nothing_ahead new framing limit v values piece old now fed (takes nothing_ahead framing limit v values represents)
 
--- a prefix of the bytes has the events, with any result for the piece
+-- `Spelt` holds for w and the piece after w, for any result for the piece
 spelt_of : (framing : Framing) (limit : ℕ) (f : Reading EventReader) (w piece : List ℕ) (values old now : List Event) (fed : Result (Unit {0}) ReadingStop) → old ≡ []
     → ReadingTakes HoldsData Spells IsEventRefusal f framing limit w values piece old now fed → Spelt framing limit (w ++ piece) (values ++ now)
 spelt_of framing limit f w piece values old now (Ok done) none (more, added, s) =
@@ -75,7 +76,7 @@ spelt_of framing limit f w piece values old now (Err (reading_stop.Fault fault))
 none_out : (a : Device) (sent : ℕ) → sent ≡ 0 → WentOut a.bytes a.bytes a.counts a.counts [] 0 sent
 none_out a sent none = record { out = Appends-nil a.bytes; good = (refl, refl); count = omega (arith, none); calls = (omega arith, omega arith) }
 
--- Some events were printed; the effect of printing more.
+-- The lines of `events` were printed; the effect of printing `more` events after them.
 module _ (events more : List Event) (before after : LineBuffer) (out mid new : Device) (none : before.held.items ≡ []) where
   -- the lines of more events were written
   shown_more : (detail : Detail) (next : ℕ) → WentOut out.bytes mid.bytes out.counts mid.counts (printed_from detail 1 events) 0 before.sent → PrintsEvents detail before after mid new (1 + length events) more (Ok (All next))
@@ -90,7 +91,7 @@ module _ (events more : List Event) (before after : LineBuffer) (out mid new : D
   cut Counts fault shown h = absurd h
   cut Lines fault shown h = (refl, goes_then_stops out mid new (lines_from 1 events) (lines_from (1 + length events) more) before.sent fault shown (rw none at h))
 
-  -- an allocation failed for one of the lines
+  -- an allocation failed for the lines of one of the events `more`; those before it were written
   record Lacks : Type 0 where
     front : List Event
     event : Event
@@ -127,12 +128,12 @@ goes_start first out framing limit fresh = record {
   nothing Lines = none_out out first.lines.sent fresh.sent
 
 module _ (first d after : Follower) (out mid printed_out : Device) (w piece : List ℕ) (now : List Event) (before : GoesFrom first out d mid w) where
-  -- a call of the reading that consumed one more piece
+  -- the contract of the call of the reading that consumed the piece
   abbrev pub Takes : Result (Unit {0}) ReadingStop → Type 0
   Takes fed = (framing : Framing) (limit : ℕ) (v : List ℕ) (values : List Event) → ReadingRepresents HoldsData Spells d.reading framing limit v values
       → ReadingTakes HoldsData Spells IsEventRefusal after.reading framing limit v values piece d.events.items now fed
 
-  -- a call that printed the events of the piece
+  -- the contract of the call that printed the events of the piece
   abbrev pub Shows : Result Amount WriteFault → Type 0
   Shows result = (n : ℕ) → d.number ≡ saturated n → PrintsEvents d.detail d.lines after.lines mid printed_out n now result
 
@@ -167,7 +168,7 @@ module _ (first d after : Follower) (out mid printed_out : Device) (w piece : Li
         number = omega (arith, is, length-append s.events now);
       }
 
-  -- the events that the piece completed
+  -- `now` are the events that the piece completed
   brings : (framing : Framing) (limit : ℕ) (events : List Event) (fed : Result (Unit {0}) ReadingStop) → d.events.items ≡ [] → ReadingRepresents HoldsData Spells d.reading framing limit w events → Takes fed
       → Brings framing limit w piece events now
   brings framing limit events fed none represents takes = record {
@@ -211,7 +212,7 @@ byte_few framing limit w events (Err stop) at =
     let whole = ap length s.is ∙ length-append s.front (s.byte ∷ s.rest) in
     omega (arith, fewer, whole)
 
--- the number of the next event gives the number of events
+-- the number of events is one less than the number of the next event
 counted : (reads made number : ℕ) (w : List ℕ) (events : List Event) → reads ≤ MAX_READS → made ≤ reads → length w ≤ MAX_READ * made → length events ≤ length w → number ≡ saturated (1 + length events)
     → number - 1 ≡ length events
 counted reads made number w events few most bytes fewer is = omega (arith, few, most, bytes, fewer, is)
@@ -220,7 +221,7 @@ module _ (framing : Framing) (limit reads : ℕ) (few : reads ≤ MAX_READS) (in
   abbrev pub HasEnded : ReadsEnd FollowStop → Type 0
   HasEnded end = EndsReads (GoesFrom first out now mid) (StopsFrom first out now mid) reads input.counts rest.counts rest.bytes w end
 
-  -- the outcome if the reading ended
+  -- the outcome of `follow`, if the reading ended
   pub follows_outcome : (end : ReadsEnd FollowStop) (read : ReadsEnd ReadingStop) (outcome : Result Report Stop) (late : Device) (events : ℕ) (ended : RunOutcome) → HasEnded end → ended_of end ≡ Ok read → Means HoldsData Spells now.reading read outcome
       → events ≡ now.number - 1 → Prints mid late (outcome_line events outcome ++ 10 ∷ []) (outcome_status outcome) ended → Follows first.detail framing limit reads input rest out late (ended_after now.lines.sent ended)
   follows_outcome (Stopped (PrintError reason)) read outcome late events ended ends is means count prints =
@@ -254,7 +255,7 @@ module _ (framing : Framing) (limit reads : ℕ) (few : reads ≤ MAX_READS) (in
       let all = count ∙ counted reads reads now.number w s.events few asked.most asked.bytes fewer s.number in
       outcome_printed first.detail framing limit reads input rest out mid late w s.events outcome now.lines.sent ended consumes (inr (inr (inr (reported framing limit w s.events s.represents, asked)))) s.shown (rw all at prints)
 
-  -- the outcome if the output failed in the lines of the last events
+  -- the outcome of `follow`, if the output failed in the lines of the last read's events
   pub follows_cut : (end : ReadsEnd FollowStop) (fault : WriteFault) → HasEnded end → ended_of end ≡ Err (why.Output fault) → Follows first.detail framing limit reads input rest out mid (OutputFailed fault.sent)
   follows_cut (Stopped (PrintError (why.Output reported))) fault (front, piece, at, stops, asked) is =
       let same : reported ≡ fault = cc in
@@ -266,7 +267,7 @@ module _ (framing : Framing) (limit reads : ℕ) (few : reads ≤ MAX_READS) (in
   follows_cut Failed fault ends is = absurd (cc)
   follows_cut Spent fault ends is = absurd (cc)
 
-  -- the outcome if an allocation failed for the lines of one of them
+  -- the outcome of `follow`, if an allocation failed for the lines of one of the last read's events
   pub follows_lacking : (end : ReadsEnd FollowStop) (late : Device) (ended : RunOutcome) → HasEnded end → ended_of end ≡ Err why.NoMemory → Prints mid late (fault_text NoMemory 0 ++ 10 ∷ []) exit.Fault ended
       → Follows first.detail framing limit reads input rest out late (ended_after now.lines.sent ended)
   follows_lacking (Stopped (PrintError why.NoMemory)) late ended (front, piece, at, stops, asked) is prints =

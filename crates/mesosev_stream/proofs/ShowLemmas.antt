@@ -1,4 +1,4 @@
--- Consecutive texts that were written, and the lines of events.
+-- Consecutive texts of which the last is written or cut off, and the lines of consecutive events.
 use Rattle.std.proofs.Common.{◌≡◌, ℕ, suc, ◌+◌, ◌<◌, List, [], ◌∷◌, ◌++◌, length, take, drop, get_or, take-append-drop, length-take-le, sym, ◌∙◌, ap, subst, append_assoc, append-nil, arith, refl, length-append}
 use Rattle.std.proofs.KnownBytes.{Appends-nil, Appends-trans}
 use Rattle.std.proofs.lemmas.List.{take-append-le, take_more, drop_more}
@@ -25,7 +25,7 @@ goes_both a b c v w first second =
 pub goes_counted : (a b : Device) (w : List ℕ) (sent : ℕ) → WentOut a.bytes b.bytes a.counts b.counts w 0 sent → GoesOut a b w × (sent ≡ saturated (length w))
 goes_counted a b w sent went = ((went.out, went.good), let count = went.count in omega (arith, count))
 
--- a text is cut off after one that was written
+-- if u was written, and then w was cut off after v, w is cut off after u ++ v
 pub goes_then_cut : (a b c : Device) (u v w : List ℕ) (before sent : ℕ) → GoesOut a b u → before ≡ saturated (length u) → IsCutOff b c v w sent → IsCutOff a c (u ++ v) w (saturated (before + sent))
 goes_then_cut a b c u v w before sent first count cut =
     let is = cut.sent_is in
@@ -38,7 +38,7 @@ goes_then_cut a b c u v w before sent first count cut =
       stops = none_then_stops cut.why a.counts b.counts c.counts first.1 cut.stops;
     }
 
--- a text that is cut off in a prefix is cut off
+-- if the prefix v of a text is cut off, the text v ++ w is cut off
 pub cut_more : (a b : Device) (u v w : List ℕ) (sent : ℕ) → IsCutOff a b u v sent → IsCutOff a b u (v ++ w) sent
 cut_more a b u v w sent cut =
     let short = cut.short in
@@ -51,13 +51,13 @@ cut_more a b u v w sent cut =
       stops = cut.stops;
     }
 
--- a text is printed after one that was written
+-- if v was written, and then w was printed, `PrintsAfter` holds for v and w
 pub prints_behind : (a b c : Device) (v w : List ℕ) (before : ℕ) (meant : ExitStatus) (ended : RunOutcome) → GoesOut a b v → before ≡ saturated (length v) → Prints b c w meant ended → PrintsAfter v a c w meant (ended_after before ended)
 prints_behind a b c v w before meant (Status status) first count (out, is) = (goes_both a b c v w first out, is)
 prints_behind a b c v w before meant (OutputFailed sent) first count cut =
     subst (λ (u : List ℕ). IsCutOff a c u w (saturated (before + sent))) (append-nil v) (goes_then_cut a b c v [] w before sent first count cut)
 
--- a text is cut off after one that was written, as the writer reports it
+-- if v was written, and the writer then stopped in w, w is cut off after v
 pub goes_then_stops : (a b c : Device) (v w : List ℕ) (before : ℕ) (fault : WriteFault) → WentOut a.bytes b.bytes a.counts b.counts v 0 before → Stops b.bytes c.bytes b.counts c.counts w before fault → IsCutOff a c v w fault.sent
 goes_then_stops a b c v w before fault first stops =
     let count = first.count in
@@ -81,7 +81,7 @@ lines_both n (x ∷ xs) ys =
       plus : (n k : ℕ) → (n + 1) + k ≡ n + suc k
       plus n k = omega arith
 
--- the lines up to the event x at index i
+-- the lines of the events up to x, the event at index i
 pub lines_to : (events : List Event) (x : Event) (i n : ℕ) → i < length events → x ≡ get_or events i x
     → lines_from n (take (i + 1) events) ≡ lines_from n (take i events) ++ event_lines (saturated (n + i)) x
 lines_to events x i n inside is =
@@ -90,11 +90,11 @@ lines_to events x i n inside is =
     ∙ ap (λ (t : List ℕ). lines_from n (take i events) ++ t) (append-nil (event_lines (saturated (n + length (take i events))) x))
     ∙ ap (λ (k : ℕ). lines_from n (take i events) ++ event_lines (saturated (n + k)) x) (length-take-le i events (omega (arith, inside)))
 
--- the lines of all events, split after the first i
+-- the lines of all events are those of the first i events and those of the others
 pub lines_on : (events : List Event) (i n : ℕ) → lines_from n events ≡ lines_from n (take i events) ++ lines_from (n + length (take i events)) (drop i events)
 lines_on events i n = ap (λ (es : List Event). lines_from n es) (sym (take-append-drop i events)) ∙ lines_both n (take i events) (drop i events)
 
--- the events before index i, the event at i, and those after it
+-- a list of events is the events before index i, the event x at i, and the events after x
 pub events_at : (events : List Event) (x : Event) (i : ℕ) → i < length events → x ≡ get_or events i x → events ≡ take i events ++ x ∷ drop (i + 1) events
 events_at events x i inside is =
     sym (take-append-drop i events) ∙ ap (λ (es : List Event). take i events ++ es) (drop_more events i x inside ∙ ap (λ (y : Event). y ∷ drop (i + 1) events) (sym is))

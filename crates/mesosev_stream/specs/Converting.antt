@@ -14,7 +14,7 @@ use Rattle.mesosev_stream.specs.declared.exit_status.ExitStatus.{ExitStatus}
 use Rattle.mesosev_stream.specs.declared.exit_status.ExitStatus.TheVariants as exit
 use Rattle.mesosev_stream.specs.declared.limits.TheConstants.{MAX_READS}
 
--- the bytes w are the events as plain RecordIO, or in chunks of that size
+-- the bytes w are the encoding of the events: plain RecordIO, or a stream in chunks of `most` bytes
 abbrev pub IsConverted : ℕ → Option ℕ → List Event → List ℕ → Type 0
 IsConverted limit None events w = IsPlainOf limit events w
 IsConverted limit (Some most) events w = IsStreamOf limit most events w
@@ -28,13 +28,13 @@ Sends limit most events out written err reported status =
     ⊎ ((fault : SendFault) × StopsSending {W = Device} (λ d. d.bytes) (λ d. d.counts) (IsConverted limit most events) limit events out written fault
     × Tells err reported (send_text fault ++ 10 ∷ []) × (status ≡ exit.Fault))
 
--- the effect of the events read: written, if the stream ended; otherwise its error was printed
+-- the events that were read were written, if the stream ended; otherwise the error was printed
 abbrev pub SendsRead : ℕ → Option ℕ → List Event → Result Report Stop → Device → Device → Device → Device → ExitStatus → Type 0
 SendsRead limit most events (Ok report) out written err reported status = Sends limit most events out written err reported status
 SendsRead limit most events (Err stop) out written err reported status =
     (written ≡ out) × Tells err reported (fault_text stop.fault stop.used ++ 10 ∷ []) × (status ≡ exit.Fault)
 
--- the bytes w were read as these events with this result, and `SendsRead` holds of them
+-- some bytes w were read from the input, with some events and result for which `SendsRead` holds
 abbrev pub Converts : Framing → ℕ → Option ℕ → Device → Device → Device → Device → Device → Device → ExitStatus → Type 0
 Converts framing limit most input rest out written err reported status =
     (w : List ℕ) × (events : List Event) × (outcome : Result Report Stop) × ReadsInput framing limit MAX_READS input rest w events outcome

@@ -1,4 +1,4 @@
--- The writer of an output, and when the output is closed.
+-- The writer of an output, and the condition for a closed output.
 use Rattle.std.specs.Prelude.{ℕ, Bool, true, false, ◌||◌, List, Option, Result, Ok, Err}
 use Rattle.std.specs.IoError.{error_kind}
 use Rattle.std.specs.declared.io.Error.{Error}
@@ -8,16 +8,16 @@ use Rattle.mes_frame.specs.Devices.{Device, device_of}
 use Rattle.mes_frame.specs.declared.counts.Counts.{Counts}
 use Rattle.mesosev_stream.specs.declared.output.Output.{Output}
 
--- the device of the writer inside
+-- the device of the writer `inner` of an output
 abbrev pub output_of : {W : Type 0} → (W → Option (List ℕ)) → (W → Counts) → Output W → Device
 output_of written counts o = device_of written counts o.inner
 
--- whether an error of this kind is that of a pipe without a reader
+-- true if an error of the given kind means that a pipe has no reader
 abbrev pub is_closed : ErrorKind → Bool
 is_closed BrokenPipe = true
 is_closed _ = false
 
--- whether an output is closed after a call with this result; it stays closed
+-- true if an output is closed after a call with the given result; a closed output stays closed
 abbrev pub closed_by : Bool → Result ℕ Error → Bool
 closed_by closed (Ok taken) = closed
 closed_by closed (Err error) = closed || is_closed (error_kind error)

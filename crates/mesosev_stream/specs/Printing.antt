@@ -27,7 +27,7 @@ use Rattle.mesosev_stream.specs.declared.outcome.RunOutcome.TheVariants.{Status,
 abbrev pub GoesOut : Device → Device → List ℕ → Type 0
 GoesOut old new text = Appends old.bytes new.bytes text × NoneFails old.counts new.counts
 
--- the first text was written, then n bytes of the second, not all; `sent` counts both
+-- the text `front` was written, then n bytes of `text`, but not all; `sent` is the sum of both
 pub record IsCutOff (old new : Device) (front text : List ℕ) (sent : ℕ) : Type 0 where
   pub n : ℕ
   pub short : n < length text
@@ -36,35 +36,35 @@ pub record IsCutOff (old new : Device) (front text : List ℕ) (sent : ℕ) : Ty
   pub why : WriteFaultKind
   pub stops : StopsWrite why old.counts new.counts
 
--- the text was written completely; or it was cut off, as the error describes
+-- the text was written completely; or only a part of the text, as the error describes
 abbrev pub PrintsText : {T : Type 0} → Device → Device → List ℕ → Result T WriteFault → Type 0
 PrintsText old new text (Ok done) = GoesOut old new text
 PrintsText old new text (Err fault) = IsCutOff old new [] text fault.sent × StopsWrite fault.why old.counts new.counts
 
--- `PrintsText` for an output whose errors are ignored
+-- `PrintsText` with some result, for an output whose errors are ignored
 abbrev pub Tells : Device → Device → List ℕ → Type 0
 Tells old new text = (printed : Result (Unit {0}) WriteFault) × PrintsText old new text printed
 
--- the outcome after the last text was printed
+-- the outcome of a run after its last text was printed: the status `meant`, or the failed output
 abbrev pub outcome_after : {T : Type 0} → ExitStatus → Result T WriteFault → RunOutcome
 outcome_after meant (Ok done) = Status meant
 outcome_after meant (Err fault) = OutputFailed fault.sent
 
--- both texts were written, and the status is `meant`; or the second was cut off
+-- both texts were written, and the status is `meant`; or the output failed within the second text
 abbrev pub PrintsAfter : List ℕ → Device → Device → List ℕ → ExitStatus → RunOutcome → Type 0
 PrintsAfter front old new text meant (Status status) = GoesOut old new (front ++ text) × (status ≡ meant)
 PrintsAfter front old new text meant (OutputFailed sent) = IsCutOff old new front text sent
 
--- `PrintsAfter` with nothing before the text
+-- `PrintsAfter` if no text was written before `text`
 abbrev pub Prints : Device → Device → List ℕ → ExitStatus → RunOutcome → Type 0
 Prints old new text meant ended = PrintsAfter [] old new text meant ended
 
--- the outcome with `before` more bytes written earlier
+-- the outcome of a run, if `before` bytes were written before the run
 abbrev pub ended_after : ℕ → RunOutcome → RunOutcome
 ended_after before (Status status) = Status status
 ended_after before (OutputFailed sent) = OutputFailed (saturated (before + sent))
 
--- `write failed after 7`: an output failed after that number of bytes
+-- the line of an output that failed after `sent` bytes, for example `write failed after 7`
 abbrev pub failed_text : ℕ → List ℕ
 failed_text sent = send_text (send.Write (record { sent = sent; why = why.Device }))
 
@@ -84,17 +84,17 @@ abbrev pub outcome_status : Result Report Stop → ExitStatus
 outcome_status (Ok report) = exit.Success
 outcome_status (Err stop) = exit.Fault
 
--- the bytes w were read from the input, with these events and this result
+-- the bytes w were read from the input, with the given events and result
 abbrev pub ReadsInput : Framing → ℕ → ℕ → Device → Device → List ℕ → List Event → Result Report Stop → Type 0
 ReadsInput framing limit reads input rest w events outcome = Consumes input.bytes rest.bytes w
     × EndsReading framing Spells IsEventRefusal limit reads input.counts rest.counts rest.bytes w events outcome
 
--- the bytes w were read from the input, and the line of the result was printed
+-- some bytes were read from the input, and the line of the result was printed
 abbrev pub Checks : Framing → ℕ → ℕ → Device → Device → Device → Device → RunOutcome → Type 0
 Checks framing limit reads input rest out printed ended =
     (w : List ℕ) × (events : List Event) × (outcome : Result Report Stop) × ReadsInput framing limit reads input rest w events outcome
     × Prints out printed (outcome_line (length events) outcome ++ 10 ∷ []) (outcome_status outcome) ended
 
--- the line for an allocation that failed before any byte was used was printed
+-- an allocation failed before any byte was used, and the line of that error was printed
 abbrev pub LacksMemory : Device → Device → RunOutcome → Type 0
 LacksMemory out printed ended = Prints out printed (fault_text NoMemory 0 ++ 10 ∷ []) exit.Fault ended

@@ -21,23 +21,24 @@ use Rattle.mesosev_stream.specs.declared.outcome.RunOutcome.TheVariants.{OutputF
 use Rattle.mesosev_stream.specs.declared.follower.Detail.{Detail}
 use Rattle.mesosev_stream.specs.declared.follower.Detail.TheVariants.{Counts, Lines}
 
--- the lines of the events; the first has this number
+-- the lines of the events; the first event has the given number
 abbrev pub lines_from : ℕ → List Event → List ℕ
 lines_from number [] = []
 lines_from number (event ∷ events) = event_lines (saturated number) event ++ lines_from (number + 1) events
 
--- what is printed of the events: nothing, or their lines; the first has this number
+-- the text printed for the events: nothing, or their lines; the first event has the given number
 abbrev pub printed_from : Detail → ℕ → List Event → List ℕ
 printed_from Counts number events = []
 printed_from Lines number events = lines_from number events
 
--- w is a prefix of a stream, or a whole one, with the events, and at most one read's bytes after it
+-- w is a prefix of a stream of the events, or a whole stream, followed by at most the bytes of one
+-- read
 abbrev pub Spelt : Framing → ℕ → List ℕ → List Event → Type 0
 Spelt framing limit w events =
     (front : List ℕ) × (rest : List ℕ) × (w ≡ front ++ rest) × (length rest ≤ MAX_READ)
     × (GoesIn framing Spells limit front events ⊎ EndsIn framing Spells limit front events)
 
--- before the last read the bytes have the events `before`, and with it `last` too
+-- the bytes before the last read have the events `before`; the last read completes `last`
 pub record LastEvents (framing : Framing) (limit : ℕ) (w : List ℕ) (before last : List Event) : Type 0 where
   pub front : List ℕ
   pub piece : List ℕ
@@ -51,8 +52,8 @@ TakesEvents framing limit reads input rest w before last = Consumes input.bytes 
     × SomeReadsMade reads input.counts rest.counts w 0 0
 
 -- One of three outcomes: all events and the result of the stream were printed; or the output failed
--- in the lines of the last read's events; or an allocation for the lines of one of those failed,
--- and F13 was printed.
+-- in the lines of the last read's events; or an allocation failed for the lines of one of those
+-- events, and F13 was printed.
 abbrev pub Shows : Framing → ℕ → ℕ → Device → Device → Device → Device → RunOutcome → Type 0
 Shows framing limit reads input rest out printed ended =
     (w : List ℕ) × (events : List Event)
@@ -63,7 +64,7 @@ Shows framing limit reads input rest out printed ended =
     ⊎ ((last : List Event) × (event : Event) × (more : List Event) × TakesEvents framing limit reads input rest w events (last ++ event ∷ more)
     × PrintsAfter (lines_from 1 (events ++ last)) out printed (fault_text NoMemory 0 ++ 10 ∷ []) exit.Fault ended))
 
--- the events were counted (`Checks`), or printed (`Shows`)
+-- the events of the input were counted (`Checks`), or printed (`Shows`)
 abbrev pub Follows : Detail → Framing → ℕ → ℕ → Device → Device → Device → Device → RunOutcome → Type 0
 Follows Counts framing limit reads input rest out printed ended = Checks framing limit reads input rest out printed ended
 Follows Lines framing limit reads input rest out printed ended = Shows framing limit reads input rest out printed ended

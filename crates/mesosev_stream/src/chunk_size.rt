@@ -25,7 +25,7 @@ impl Model for ChunkSize {
 }
 
 impl ChunkSize {
-    /// Returns the size, if it is in this range.
+    /// Returns the size of chunks of `bytes` bytes, if it is in the range.
     pub fn new(bytes: u32) -> Option<ChunkSize>
         ensures { SomeIff result ((MIN_CHUNK ≤ bytes) × (bytes ≤ MAX_CHUNK)) bytes }
     {

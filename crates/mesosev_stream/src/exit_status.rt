@@ -6,7 +6,7 @@ ghost use Rattle.mesosev_stream.specs.Printing.{outcome_after};
 use crate::outcome::RunOutcome;
 use mes_frame::WriteFault;
 
-/// The exit status of the program. `main.rt` of `mesosev` gives each its number.
+/// The exit status of the program. `exit_status.rt` of the crate `mesosev` has the numbers.
 #[derive(Clone, Copy, Debug, PartialEq, Eq)]
 pub enum ExitStatus {
     /// No error occurred.
@@ -18,7 +18,8 @@ pub enum ExitStatus {
 }
 
 impl ExitStatus {
-    /// Returns the outcome after the last text was printed: this status, or the failed output.
+    /// Returns the outcome of a run after its last text was printed: this status, or that the
+    /// output failed.
     pub fn after(self, printed: Result<(), WriteFault>) -> RunOutcome
         ensures { result ≡ outcome_after self printed }
     {

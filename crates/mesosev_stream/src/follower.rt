@@ -16,12 +16,12 @@ use mes_msg::Event;
 use mes_stream::{Consumer, EventReader, Framing, Reading, ReadingStop, ReadsEnd, read_device};
 use std::alloc::Global;
 
-/// What is printed of each event.
+/// The lines that are printed for each event.
 #[derive(Clone, Copy, Debug, PartialEq, Eq)]
 pub enum Detail {
-    /// Nothing: the events are only counted.
+    /// None: the events are only counted.
     Counts,
-    /// The lines of each event.
+    /// All lines of the event.
     Lines,
 }
 
@@ -37,9 +37,9 @@ pub(crate) enum PrintError {
 /// How many of the events were printed.
 #[derive(Clone, Copy, Debug, PartialEq, Eq)]
 pub(crate) enum PrintProgress {
-    /// All; the next event has this number.
+    /// All events; the next event has this number.
     All(u64),
-    /// Those before an event for whose lines an allocation failed.
+    /// The events before an event for whose lines an allocation failed.
     NoMemory,
 }
 
@@ -100,9 +100,9 @@ impl<O: Sink> Consumer<O> for Follower {
     }
 }
 
-/// Decodes `input`, prints the events of each read before the next one, as `detail` says, then a
-/// summary line or the first error. Reads at most `max_reads` times, and stops reading once a write
-/// fails.
+/// Decodes `input`, and prints the events of each read, as `detail` states, before the next read.
+/// Then prints a summary line or the first error. Reads at most `max_reads` times, and stops
+/// reading once a write fails.
 ///
 /// Buffers the events of one read and at most `MAX_LINE_BUFFER` bytes of output. If that buffer
 /// cannot be allocated, the lines are written directly.
@@ -141,7 +141,7 @@ pub fn follow<I: Source, O: Sink>(
     }
 }
 
-/// Returns how the reads ended if all lines were printed so far, and otherwise the reason why not.
+/// Returns how the reads ended; or the error, if the lines of an event were not printed.
 fn ended(end: ReadsEnd<FollowStop>) -> Result<ReadsEnd<ReadingStop>, PrintError>
     ensures { result ≡ ended_of end }
 {
@@ -154,7 +154,7 @@ fn ended(end: ReadsEnd<FollowStop>) -> Result<ReadsEnd<ReadingStop>, PrintError>
     }
 }
 
-/// Prints the events as `detail` says; the first has the number `first`.
+/// Prints the events as `detail` states; the first event has the number `first`.
 fn print_events<O: Sink>(
     detail: Detail,
     events: &[Event],
@@ -173,7 +173,7 @@ fn print_events<O: Sink>(
     }
 }
 
-/// Prints the lines of the events; the first has the number `first`.
+/// Prints the lines of the events; the first event has the number `first`.
 fn show_events<O: Sink>(
     events: &[Event],
     first: u64,
@@ -199,7 +199,7 @@ fn show_events<O: Sink>(
     }
 }
 
-/// Buffers the lines of the events; the first has the number `first`.
+/// Buffers the lines of the events; the first event has the number `first`.
 fn hold_events<O: Sink>(
     events: &[Event],
     first: u64,

@@ -8,8 +8,8 @@
 //!     let outcome = follow(alloc, Detail::Lines, Framing::Chunked, limit, MAX_READS, input, out);
 //!     let status = finish(outcome, out.is_closed(), err);
 //!
-//! The other subcommands use its printing functions and [`RunOutcome`]: see the crates
-//! `mesosev_log`, `mesosev_serve` and `mesosev_net`. Tests are in the crate `mesosev_stream_tests`.
+//! The crates `mesosev_log`, `mesosev_serve` and `mesosev_net` have the other subcommands, and use
+//! the printing functions and [`RunOutcome`]. Tests are in the crate `mesosev_stream_tests`.
 
 mod chunk_size;
 mod conversion;

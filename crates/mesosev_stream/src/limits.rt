@@ -1,4 +1,4 @@
-//! Limits of one run.
+//! Limits of one run of a subcommand.
 
 use mes_stream::MAX_FAULT_LINE;
 

@@ -1,4 +1,4 @@
-//! A buffer for the lines of one read's events, so that one call writes them.
+//! A buffer for the lines of the events of one read, so that one call writes all these lines.
 
 ghost use Rattle.std.specs.Prelude.{◌≡◌, ◌≤◌, [], ◌++◌, true, false, length, OnOk, IfOk, IfErr};
 ghost use Rattle.std.specs.Io.KnownBytes.{Appends};
@@ -10,7 +10,7 @@ use crate::limits::MAX_LINE_BUFFER;
 use mes_frame::{Sink, WriteFault, write_all};
 use std::alloc::Global;
 
-/// Buffers at most `MAX_LINE_BUFFER` bytes of lines, and counts the bytes written before. If an
+/// Buffers at most `MAX_LINE_BUFFER` bytes of lines, and counts the bytes already written. If an
 /// allocation fails, lines are written directly.
 #[derive(Drop)]
 pub(crate) struct LineBuffer {
@@ -30,15 +30,15 @@ impl LineBuffer {
         }
     }
 
-    /// Returns the number of bytes written so far. It stays at 2^64 - 1.
+    /// Returns the number of bytes written so far, or 2^64 - 1 if there were more.
     pub(crate) fn sent(&self) -> u64
         ensures { result ≡ self.now.sent }
     {
         self.sent
     }
 
-    /// Appends lines. If they do not fit or an allocation fails, writes the buffered lines first.
-    /// Lines larger than the buffer are written directly.
+    /// Appends lines. If the buffer has no room or an allocation fails, writes the buffered lines
+    /// first. Lines larger than the buffer are written directly.
     pub(crate) fn hold<O: Sink>(&mut self, out: &mut O, lines: &[u8]) -> Result<(), WriteFault>
         ensures ok { OnOk result (Passes (O.written out.old) (O.written out.new) (O.counts out.old)
             (O.counts out.new)
@@ -58,7 +58,8 @@ impl LineBuffer {
         Ok(())
     }
 
-    /// Appends lines, and returns whether they fit and could be allocated.
+    /// Appends lines, unless the buffer has no room or an allocation fails. Returns whether the
+    /// lines were appended.
     fn append(&mut self, lines: &[u8]) -> bool
         ensures held { result ≡ true → self.new.held.items ≡ self.old.held.items ++ lines.now }
         ensures room { result ≡ true → length self.new.held.items ≤ MAX_LINE_BUFFER }
@@ -87,7 +88,8 @@ impl LineBuffer {
     }
 }
 
-/// Writes all of these bytes, and returns the total with `before`. An error has that total too.
+/// Writes all of `bytes`, and returns the number of bytes written, including `before` earlier
+/// bytes. An error has that number too.
 fn write_after<O: Sink>(out: &mut O, bytes: &[u8], before: u64) -> Result<u64, WriteFault>
     ensures ok { OnOk result (Appends (O.written out.old) (O.written out.new) bytes.now) }
     ensures ok_counts { OnOk result (NoneFails (O.counts out.old) (O.counts out.new)) }

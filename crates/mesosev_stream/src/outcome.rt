@@ -1,4 +1,4 @@
-//! The outcome of a run: an exit status, or a failed output.
+//! The outcome of a run of a subcommand: an exit status, or a failed output.
 
 ghost use Rattle.std.specs.Prelude.{◌≡◌, ◌∷◌, ◌++◌, []};
 ghost use Rattle.mes_frame.specs.Devices.{device_of};
@@ -9,18 +9,18 @@ use crate::print::print_send_fault;
 use mes_frame::{Sink, WriteFault, WriteFaultKind};
 use mes_stream::SendFault;
 
-/// The outcome of a run that prints to an output.
+/// The outcome of a run of a subcommand that prints to an output.
 #[derive(Clone, Copy, Debug, PartialEq, Eq)]
 pub enum RunOutcome {
     /// Everything was written, and this is the exit status.
     Status(ExitStatus),
-    /// The output failed, or wrote 0 bytes, after this number of bytes. The number stays at 2^64 -
-    /// 1.
+    /// The output failed, or wrote 0 bytes, after this number of bytes (2^64 - 1 if there were
+    /// more).
     OutputFailed(u64),
 }
 
 impl RunOutcome {
-    /// Returns the outcome with `before` more bytes written earlier.
+    /// Returns the outcome if `before` bytes were written before the run.
     pub fn following(self, before: u64) -> RunOutcome
         ensures { result ≡ ended_after before self }
     {
@@ -32,7 +32,7 @@ impl RunOutcome {
 }
 
 /// Returns the exit status of a run. If the output failed, prints `write failed after N` to `err`
-/// and returns `Fault`. Prints nothing if the output is closed, that is, a pipe without a reader.
+/// and returns `Fault`. Prints nothing if the output is closed: a pipe without a reader.
 pub fn finish<E: Sink>(ended: RunOutcome, closed: bool, err: &mut E) -> ExitStatus
     // The line printed to `err`, if any, and the status.
     ensures { Finishes closed (device_of E.written E.counts err.old)

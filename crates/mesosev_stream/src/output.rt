@@ -59,7 +59,7 @@ impl<W: Sink> Sink for Output<W> {
     }
 }
 
-/// Returns whether a pipe without a reader fails like this.
+/// Returns whether an error of this kind means that a pipe has no reader.
 fn is_closed_pipe(kind: ErrorKind) -> bool
     ensures { result ≡ is_closed kind }
 {

@@ -18,9 +18,9 @@ use mes_stream::{
 
 /// Prints bytes.
 ///
-/// Errors: the output failed, or wrote 0 bytes, before the last of them.
+/// Errors: the output failed, or wrote 0 bytes, before the last of the bytes.
 pub fn print_bytes<O: Sink>(out: &mut O, bytes: &[u8]) -> Result<(), WriteFault>
-    // On success: all bytes were written. On an error: exactly those before it.
+    // On success: all bytes were written. On an error: exactly the bytes before the failure.
     ensures { PrintsText (device_of O.written O.counts out.old)
         (device_of O.written O.counts out.new) bytes.now result }
 {
@@ -31,7 +31,7 @@ pub fn print_bytes<O: Sink>(out: &mut O, bytes: &[u8]) -> Result<(), WriteFault>
 ///
 /// Errors: like [`print_bytes`].
 pub fn print_text<O: Sink>(out: &mut O, text: &str) -> Result<(), WriteFault>
-    // On success: the text was written. On an error: exactly the bytes before it.
+    // On success: the text was written. On an error: exactly the bytes before the failure.
     ensures { PrintsText (device_of O.written O.counts out.old)
         (device_of O.written O.counts out.new) text.now result }
 {
@@ -43,7 +43,7 @@ pub fn print_text<O: Sink>(out: &mut O, text: &str) -> Result<(), WriteFault>
 /// Errors: like [`print_bytes`].
 pub fn print_line<O: Sink>(out: &mut O, line: &str) -> Result<(), WriteFault>
     requires { length line.now ≤ MAX_FAULT_LINE }
-    // On success: the line and LF were written. On an error: exactly the bytes before it.
+    // On success: the line and LF were written. On an error: exactly the bytes before the failure.
     ensures { PrintsText (device_of O.written O.counts out.old)
         (device_of O.written O.counts out.new) (line.now ++ 10 ∷ []) result }
 {
@@ -68,7 +68,7 @@ pub(crate) fn print_count<O: Sink>(out: &mut O, events: u64, used: u64) -> Resul
 ///
 /// Errors: like [`print_bytes`].
 pub fn print_fault<O: Sink>(out: &mut O, fault: &Fault, used: u64) -> Result<(), WriteFault>
-    // On success: the line and LF were written. On an error: exactly the bytes before it.
+    // On success: the line and LF were written. On an error: exactly the bytes before the failure.
     ensures { PrintsText (device_of O.written O.counts out.old)
         (device_of O.written O.counts out.new)
         (fault_text fault.now used ++ 10 ∷ []) result }
@@ -82,7 +82,7 @@ pub fn print_fault<O: Sink>(out: &mut O, fault: &Fault, used: u64) -> Result<(),
 ///
 /// Errors: like [`print_bytes`].
 pub fn print_send_fault<O: Sink>(out: &mut O, fault: &SendFault) -> Result<(), WriteFault>
-    // On success: the line and LF were written. On an error: exactly the bytes before it.
+    // On success: the line and LF were written. On an error: exactly the bytes before the failure.
     ensures { PrintsText (device_of O.written O.counts out.old)
         (device_of O.written O.counts out.new)
         (send_text fault.now ++ 10 ∷ []) result }
@@ -92,8 +92,8 @@ pub fn print_send_fault<O: Sink>(out: &mut O, fault: &SendFault) -> Result<(), W
     print_line(out, line.as_str())
 }
 
-/// Prints the result of reading a stream with this number of events. The status is `Success` if it
-/// was read to its end, and `Fault` otherwise.
+/// Prints the result of reading a stream with this number of events. The status is `Success` if the
+/// stream was read to its end, and `Fault` otherwise.
 pub fn report_outcome<O: Sink>(
     out: &mut O,
     events: u64,

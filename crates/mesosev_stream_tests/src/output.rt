@@ -4,7 +4,7 @@ use mesosev_stream::Output;
 use std::io;
 use std::io::{ErrorKind, Write};
 
-// A writer whose calls fail with an error of this kind.
+// A writer whose calls all fail with an error of one kind.
 #[derive(Drop)]
 struct Failing {
     kind: ErrorKind,
@@ -20,7 +20,8 @@ impl Write for Failing {
     }
 }
 
-// Returns whether an output returns an error of this kind, and is closed or not.
+// Returns whether an output returns the error of its writer, of the kind `kind`, and is then closed
+// or not, as given.
 fn hands_on(kind: ErrorKind, closed: bool) -> bool {
     let mut output = Output::new(FromStd::new(Failing { kind }));
     match &output.put(b"x") {

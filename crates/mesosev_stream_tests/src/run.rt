@@ -7,15 +7,15 @@ use std::alloc::{AllocGlobal, Global};
 use std::process::Abort;
 use std::test::Fail;
 
-// A record of 20 bytes; 23 with its size line.
+// A record with 20 bytes of data: 23 bytes with the size line.
 const HEARTBEAT: &str = "20\n{\"type\":\"HEARTBEAT\"}";
 
-/// Returns `count` of those records.
+/// Returns `count` times the record.
 fn heartbeats(alloc: Global, count: usize) -> Result<Vec<u8>, Fail> {
     Ok(HEARTBEAT.as_bytes().repeat(alloc, count)?)
 }
 
-/// Returns the bytes as text, so that a failure prints it.
+/// Returns the bytes as text, so that a failed test prints the text.
 fn as_text(bytes: &[u8]) -> Option<&str> {
     str::from_utf8(bytes).ok()
 }
@@ -59,7 +59,7 @@ fn expect_printed<R: Abort + AllocGlobal>(
     assert_eq!(rt; (as_text(out.bytes()), reported), (as_text(lines), ended));
 }
 
-// The writer does not stop.
+// Like `expect_printed`, with a writer that does not fail.
 fn expect_status<R: Abort + AllocGlobal>(
     rt: &R,
     detail: Detail,
@@ -72,7 +72,7 @@ fn expect_status<R: Abort + AllocGlobal>(
     expect_printed(rt, detail, source, &mut out, lines.as_bytes(), ended);
 }
 
-// `size` is the largest read in bytes.
+// Expects `lines` for one record; `size` is the largest read in bytes.
 fn expect_lines<R: Abort + AllocGlobal>(rt: &R, detail: Detail, lines: &str, size: usize) {
     let mut source = MemorySource::new(HEARTBEAT.as_bytes(), size);
     expect_status(rt, detail, &mut source, lines, ExitStatus::Success);
@@ -86,7 +86,7 @@ fn records_are_read_by_pieces(rt: HostRuntime) {
     }
 }
 
-// The reader fails after `taken` bytes.
+// Expects `lines` if the reader fails after `taken` bytes of the record.
 fn expect_failed_read<R: Abort + AllocGlobal>(rt: &R, detail: Detail, taken: usize, lines: &str) {
     let mut source = MemorySource::failing_after(HEARTBEAT.as_bytes(), 1, taken);
     expect_status(rt, detail, &mut source, lines, ExitStatus::Fault);
@@ -104,7 +104,7 @@ fn a_reader_that_fails_is_reported(rt: HostRuntime) -> Result<(), Fail> {
     Ok(())
 }
 
-// The writer stops after `front`, and must have exactly that.
+// The writer stops after `front`, and must have received exactly `front`.
 fn expect_cut<R: Abort + AllocGlobal>(rt: &R, detail: Detail, front: &[u8], stop: MemoryStop) {
     let good = front.len();
     let mut source = MemorySource::new(HEARTBEAT.as_bytes(), 7);
@@ -145,7 +145,7 @@ fn followed_by(
     )
 }
 
-// Exactly `max_reads` reads must be made.
+// Expects `lines` after exactly `max_reads` reads.
 fn expect_spent_by<R: Abort + AllocGlobal>(
     rt: &R,
     max_reads: u32,
@@ -177,7 +177,7 @@ fn spent_reads_are_reported(rt: HostRuntime) -> Result<(), Fail> {
     Ok(())
 }
 
-// The outcome, the number of reads, and the number of writes.
+// The outcome of a run, the number of reads, and the number of writes.
 type Calls = (RunOutcome, u64, u64);
 
 // The reader fills each read.
@@ -193,7 +193,7 @@ fn reads_of_check(alloc: Global, bytes: &[u8]) -> (RunOutcome, u64) {
     (ended, reads)
 }
 
-// One read for each 512 bytes, and one more for the end.
+// One read is made for each 512 bytes, and one more for the end.
 #[test]
 fn a_stream_is_followed_by_few_reads(rt: HostRuntime) -> Result<(), Fail> {
     for records in 0..100 {
@@ -212,7 +212,7 @@ fn reads_before_failure(alloc: Global, bytes: &[u8]) -> (RunOutcome, u64) {
     (ended, reads)
 }
 
-// Once the lines of a read cannot be written, no more is read.
+// If the lines of a read cannot be written, no further read is made.
 #[test]
 fn nothing_is_read_behind_a_failed_output(rt: HostRuntime) -> Result<(), Fail> {
     let bytes = heartbeats(rt.alloc(), 100)?;
@@ -230,8 +230,8 @@ fn writes_of_show(alloc: Global, records: usize) -> Result<u64, Fail> {
     Ok(writes)
 }
 
-// The lines of one read are one write: 22 records end in the first 512 bytes. The last line is a
-// write of its own.
+// The lines of one read are written by one call: 22 records end in the first 512 bytes. The last
+// line is written by a call of its own.
 #[test]
 fn lines_go_out_by_few_writes(rt: HostRuntime) -> Result<(), Fail> {
     for &(records, writes) in &[(0, 1), (1, 2), (22, 2), (23, 3), (45, 4)] {
@@ -289,7 +289,7 @@ fn expect_stopped_by<R: Abort + AllocGlobal>(
     assert_eq!(rt; as_text(err.bytes()), Some(line));
 }
 
-// The writer stops after `front`.
+// Expects `line` on standard error if the writer stops after `front`.
 fn expect_stopped<R: Abort + AllocGlobal>(rt: &R, front: &[u8], stop: MemoryStop, line: &str) {
     let mut out = MemorySink::stopping_after(rt.alloc(), WRITE_SIZE, front.len(), stop);
     let mut err = MemorySink::new(rt.alloc(), WRITE_SIZE);

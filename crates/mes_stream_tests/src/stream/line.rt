@@ -14,12 +14,12 @@ fn expect_line<R: Abort>(rt: &R, fault: Fault, used: u64, expected: &str) {
     assert_eq!(rt; line.as_str(), expected);
 }
 
-// The error is at offset 5.
+// Expects this line for an error of the framing after 5 bytes.
 fn expect_framing<R: Abort>(rt: &R, fault: FrameFault, expected: &str) {
     expect_line(rt, Fault::Frame(fault), 5, expected);
 }
 
-// The error is in the first record.
+// Expects this line for a record 1 that is not JSON.
 fn expect_text<R: Abort>(rt: &R, byte: u64, why: TextFaultKind, used: u64, expected: &str) {
     let fault = Fault::Text {
         at_record: 1,
@@ -58,7 +58,7 @@ fn a_framing_fault_has_its_line(rt: HostRuntime) {
     expect_framing(&rt, RecordTooLarge, "fault F9 RecordTooLarge after 5");
 }
 
-// The error is at offset 12.
+// Expects this line for an error after 12 bytes.
 fn expect_twelve<R: Abort>(rt: &R, fault: Fault, expected: &str) {
     expect_line(rt, fault, 12, expected);
 }

@@ -1,13 +1,13 @@
-//! Readers of streams that decode pieces: one result a record, the numbers of records, the buffered
-//! bytes, and the number of reads.
+//! Readers of streams that decode pieces: one result for each record, the numbers of records, the
+//! buffered bytes, and the number of reads.
 use super::*;
 use mes_stream::{Body, EndedRecord, MAX_READ, Reading, ReadingStop, ReadsEnd, Step, StreamReader};
 
 /// A reader of a stream of events.
 pub(super) type Reader = StreamReader<EventReader>;
 
-/// The result of feeding a reader: nothing yet, the number of bytes up to the end of the stream, or
-/// an error.
+/// The result of feeding a reader: `None` if the stream continues, the number of bytes up to its
+/// end, or an error.
 pub(super) type Fed = Result<Option<usize>, ()>;
 
 pub(super) fn reader(alloc: Global, framing: Framing) -> Reader {
@@ -34,7 +34,7 @@ pub(super) fn kept(reader: &Reader) -> u64 {
     reader.held()
 }
 
-// The number of bytes used, and the name of the result.
+// Returns the number of bytes used, and the name of the result.
 fn answered(reader: &mut Reader, piece: &[u8]) -> (usize, &'static str) {
     let step = reader.next(piece).unpacked();
     (step.used, name_of(&step.out))
@@ -48,14 +48,15 @@ fn expect_two_answers<R: Abort>(rt: &R, plain: &mut Reader) {
     assert_eq!(rt; answered(plain, b""), (0, "more"));
 }
 
-// A piece with two records gives a result after the first; the rest of the piece is passed again.
+// A reader returns a result after the first of two records in a piece; the rest of the piece is
+// passed again.
 #[test]
 fn a_reader_stops_after_each_record(rt: HostRuntime) {
     let mut plain = reader(rt.alloc(), Framing::Plain);
     expect_two_answers(&rt, &mut plain);
 }
 
-// The number of bytes used, and the number of the record that is not JSON, if any.
+// Returns the number of bytes used, and the number of the record that is not JSON, if any.
 fn used_and_record(step: &Step<Event>) -> (usize, Option<u64>) {
     match &step.out {
         Decoded::Fault(Fault::Text { at_record, .. }) => (step.used, Some(*at_record)),
@@ -63,7 +64,7 @@ fn used_and_record(step: &Step<Event>) -> (usize, Option<u64>) {
     }
 }
 
-// `done` records of any kind precede the record that is not JSON.
+// `done` records precede the record that is not JSON.
 fn text_fault_behind(alloc: Global, done: u64) -> (usize, Option<u64>) {
     let body = Body::following(EventReader::new(alloc), Limit::USUAL, done);
     let mut reader = StreamReader::Plain(body);
@@ -72,7 +73,7 @@ fn text_fault_behind(alloc: Global, done: u64) -> (usize, Option<u64>) {
     used_and_record(&step)
 }
 
-// Another reader decoded the first records; the numbers continue after those.
+// Another reader decoded the first records; the numbers of records continue after those.
 #[test]
 fn records_before_are_counted(rt: HostRuntime) {
     for done in [0, 1, 7, u64::MAX] {
@@ -85,8 +86,8 @@ fn records_before_are_counted(rt: HostRuntime) {
     }
 }
 
-// Feeds `rest`, then `x` up to 5,000 times until the stream ends. Returns whether it ends with an
-// error.
+// Feeds `rest`, then the byte `x` up to 5,000 times until the stream ends. Returns whether the
+// stream ends with an error.
 fn fails_behind(reader: &mut Reader, rest: &[u8], events: &mut Vec<Event>) -> bool {
     let mut ended = fed(reader, rest, events);
     for _ in 0..5000 {
@@ -111,7 +112,7 @@ fn expect_fault<R: Abort + AllocGlobal>(rt: &R, rest: &str) {
     expect_let_go(rt, &mut chunked, rest, &mut events);
 }
 
-// One chunk and the end. Returns the number of buffered bytes too.
+// Feeds one chunk and the end. Returns the number of buffered bytes too.
 fn fed_whole(alloc: Global) -> (Fed, u64) {
     let mut events = Vec::new(alloc);
     let mut chunked = reader(alloc, Framing::Chunked);
@@ -119,7 +120,8 @@ fn fed_whole(alloc: Global) -> (Fed, u64) {
     (ended, kept(&chunked))
 }
 
-// Inside an event the stream ends or has an error, F1 to F5 and then F10: nothing is buffered.
+// Nothing is buffered after an error inside an event (F1 to F5, and F10), and after the end of the
+// stream.
 #[test]
 fn nothing_is_kept_behind_the_end_or_a_fault(rt: HostRuntime) {
     expect_fault(&rt, "\r\n;");
@@ -131,8 +133,8 @@ fn nothing_is_kept_behind_the_end_or_a_fault(rt: HostRuntime) {
     assert_eq!(rt; fed_whole(rt.alloc()), (Ok(Some(34)), 0));
 }
 
-// The end or the error, the number of reads of a device that fills each read, and the number of
-// those at its end.
+// Returns the end or the error, the number of reads of a device that fills each read, and the
+// number of reads that reported the end of the device.
 fn asked(alloc: Global, framing: Framing, bytes: &[u8]) -> (&'static str, u64, u64) {
     let mut source = MemorySource::new(bytes, usize::MAX);
     let (end, _, _) = read(alloc, framing, &mut source, 1_000);
@@ -140,7 +142,7 @@ fn asked(alloc: Global, framing: Framing, bytes: &[u8]) -> (&'static str, u64, u
     (end, counts.calls, counts.idle)
 }
 
-// One read for each 512 bytes, and one more for the end of plain RecordIO.
+// One read is made for each 512 bytes, and one more for the end of plain RecordIO.
 #[test]
 fn each_read_asks_for_as_much_as_it_may(rt: HostRuntime) -> Result<(), Fail> {
     for records in 0..100 {
@@ -152,7 +154,7 @@ fn each_read_asks_for_as_much_as_it_may(rt: HostRuntime) -> Result<(), Fail> {
     Ok(())
 }
 
-// A chunked stream shows its own end, so that no read is made for it.
+// The last chunk ends a chunked stream, so that no read is made to detect its end.
 #[test]
 fn each_read_of_chunks_asks_for_as_much_as_it_may(rt: HostRuntime) -> Result<(), Fail> {
     for records in 0..100 {
@@ -164,7 +166,7 @@ fn each_read_of_chunks_asks_for_as_much_as_it_may(rt: HostRuntime) -> Result<(),
     Ok(())
 }
 
-// Feeds the bytes of one read.
+// Feeds the bytes of one read to a reading.
 fn feed_reading(
     reading: &mut Reading<EventReader>,
     piece: &[u8],
@@ -179,7 +181,8 @@ fn feed_reading(
     }
 }
 
-// The number of bytes used, and the number of the record that is not JSON, if that is the reason.
+// The number of bytes used when reading stopped, and the number of the record that is not JSON, if
+// that record is the reason.
 type StoppedAt = (u64, Option<u64>);
 
 fn stop_of(outcome: &Result<Report, Stop>) -> Option<StoppedAt> {
@@ -195,7 +198,8 @@ fn stop_of(outcome: &Result<Report, Stop>) -> Option<StoppedAt> {
     }
 }
 
-// After a piece the reading must have stopped, with its number of bytes, and must buffer nothing.
+// After a piece the reading must have stopped and buffer nothing, and its number of bytes used must
+// be as given.
 fn expect_stop<R: Abort>(
     rt: &R,
     reading: &mut Reading<EventReader>,
@@ -242,8 +246,8 @@ fn ended_at(answer: &Result<Option<EndedRecord<Event>>, ReadingStop>) -> Option<
     }
 }
 
-// The number of bytes up to the end of the first record, as the result and as the reading return
-// it.
+// Returns the number of bytes up to the end of the first record, as the result has it, and as the
+// reading returns it.
 fn first_record(alloc: Global, piece: &[u8]) -> Option<(usize, u64)> {
     if piece.len() > MAX_READ {
         return None;
@@ -273,8 +277,8 @@ fn expect_second_stop<R: Abort + AllocGlobal>(
     Ok(count)
 }
 
-// The result says with which byte of the piece the first record ended, so that another reader can
-// continue there.
+// The result reports the byte of the piece that ends the first record, so that another reader can
+// continue after that byte.
 #[test]
 fn a_second_reading_goes_on_behind_the_first_record(rt: HostRuntime) -> Result<(), Fail> {
     assert_eq!(rt; first_record(rt.alloc(), TWO_AND_NO_TEXT), Some((23, 23)));

@@ -3,16 +3,16 @@ use super::readers::{Fed, Reader, fed, finished, kept, reader};
 use super::*;
 use mes_stream::{Body, StreamReader, read_events, read_stream};
 
-// More reads than any of these streams needs.
+// More reads than any stream of these tests needs.
 const MANY: u64 = 1_000_000;
 
-// `most` is the largest read in bytes.
+// Reads a chunked stream; `most` is the largest read in bytes.
 fn read_chunked(alloc: Global, bytes: &[u8], most: usize) -> Came {
     let mut source = MemorySource::new(bytes, most);
     read(alloc, Framing::Chunked, &mut source, MANY)
 }
 
-// Chunked streams, and the outcome of reading each.
+// Each row: a chunked stream, and the outcome of reading it.
 const READINGS: &str = r#"0|| => end, events 0 bytes 5
  => F6 EndsInsideChunks, events 0 bytes 0
 33|20~{"type":"HEARTBEAT"}20~{"type":"HEARTBEAT"}20~{" => F6 EndsInsideChunks, events 2 bytes 55
@@ -51,7 +51,8 @@ fn streams_end_and_break_at_their_byte(rt: HostRuntime) -> Result<(), Fail> {
     expect_came(&rt, HEARTBEAT_BY_BYTES, "end, events 1 bytes 143")
 }
 
-// The reading must succeed after five bytes; `rest` are the bytes that were read after the end.
+// Reading must succeed after five bytes; `rest` are the bytes that were read after the end of the
+// stream.
 fn expect_report<R: Abort>(rt: &R, end: &Result<Report, Stop>, rest: &[u8]) -> Result<(), Fail> {
     match end {
         Ok(report) => assert_eq!(rt;
@@ -90,7 +91,7 @@ fn bytes_taken_after_the_end_are_returned(rt: HostRuntime) -> Result<(), Fail> {
     let mut source = MemorySource::new(MORE, 512);
     expect_rest(&rt, end_of_events(rt.alloc(), &mut source), b"XYZ")?;
     assert_eq!(rt; source.counts().calls, 1);
-    // At two bytes a read, the third read has the last byte of the stream and one more.
+    // With two bytes for each read, the third read has the last byte of the stream and one more.
     let mut source = MemorySource::new(MORE, 2);
     expect_rest(&rt, end_of_stream(rt.alloc(), &mut source), b"X")?;
     assert_eq!(rt; (source.counts().calls, source.counts().idle), (3, 0));
@@ -117,14 +118,15 @@ fn reads_of_a_chunked_stream_are_counted(rt: HostRuntime) {
     }
 }
 
-// The device fails after `good` bytes of `HEARTBEAT_BY_BYTES`. Returns the number of failures too.
+// Reads a device that fails after `good` bytes of `HEARTBEAT_BY_BYTES`. Returns the outcome and the
+// number of failed reads.
 fn read_failing(alloc: Global, good: usize) -> (Came, u64) {
     let mut source = MemorySource::failing_after(HEARTBEAT_BY_BYTES, 1, good);
     let came = read(alloc, Framing::Chunked, &mut source, MANY);
     (came, source.counts().failures)
 }
 
-// The bytes before the failure are used, and the events that ended with them are returned.
+// The bytes before the failure are used, and the events that end in those bytes are returned.
 #[test]
 fn a_read_may_fail_after_each_byte(rt: HostRuntime) {
     for good in 0..143 {
@@ -181,7 +183,7 @@ fn size_lines_do_not_wrap(rt: HostRuntime) {
     );
 }
 
-// The results of two pieces, each with the outcome if the input ended after it.
+// Returns the results of two pieces, each with the outcome if the input ended after that piece.
 fn feed_two(
     reader: &mut Reader,
     front: &[u8],
@@ -193,7 +195,7 @@ fn feed_two(
     [first, second]
 }
 
-// Returns the number of events too.
+// Like `feed_two`, but returns the number of events too.
 fn fed_two(
     alloc: Global,
     framing: Framing,

@@ -1,5 +1,5 @@
-//! Worked examples of sending: whole, stopped by the writer at each byte, and rejected before the
-//! first byte.
+//! Worked examples of sending: every byte is written, the writer stops at each byte, or the events
+//! are rejected before the first byte.
 
 use crate::support::{HEARTBEAT, HEARTBEAT_BY_BYTES, as_text, read_into};
 use arrayvec::ArrayString;
@@ -21,7 +21,7 @@ const SUBSCRIBED: &[u8] =
 const THREE: &[u8] =
     b"20\n{\"type\":\"HEARTBEAT\"}98\n{\"type\":\"SUBSCRIBED\",\"subscribed\":{\"framework_id\":{\"value\":\"F1\"},\"heartbeat_interval_seconds\":15}}20\n{\"type\":\"HEARTBEAT\"}";
 
-// The form in which events are written.
+// The framing in which events are written.
 #[derive(Clone, Copy)]
 enum Form {
     // Plain RecordIO.
@@ -32,7 +32,7 @@ enum Form {
     LongChunks,
 }
 
-// Events, given as records, that are written in a form under a limit.
+// Events, given as records, the framing in which the test writes them, and the limit of a record.
 #[derive(Clone, Copy)]
 struct Sending<'a> {
     records: &'a [u8],
@@ -83,7 +83,7 @@ fn send(
     sent
 }
 
-// `bytes` must be sent.
+// Sending must return `answer`, and write exactly `bytes`.
 fn expect_answer<R: Abort + AllocGlobal>(
     rt: &R,
     sending: &Sending<'_>,
@@ -96,7 +96,7 @@ fn expect_answer<R: Abort + AllocGlobal>(
     Ok(())
 }
 
-// Returns the counts of the writer's calls.
+// Like `expect_answer`, but returns the counts of the writer's calls.
 fn expect_sent<R: Abort + AllocGlobal>(
     rt: &R,
     sending: &Sending<'_>,
@@ -143,7 +143,7 @@ fn a_heartbeat_is_written_in_chunks_of_one_byte(rt: HostRuntime) -> Result<(), F
     Ok(())
 }
 
-// The writer fails after `front`, and must have exactly that after one failed call.
+// The writer fails after `front`, and must have received exactly `front` after one failed call.
 fn expect_front<R: Abort + AllocGlobal>(rt: &R, front: &[u8]) -> Result<(), Fail> {
     let good = front.len();
     let sink = MemorySink::stopping_after(rt.alloc(), 64, good, MemoryStop::Fails);
@@ -156,7 +156,7 @@ fn expect_front<R: Abort + AllocGlobal>(rt: &R, front: &[u8]) -> Result<(), Fail
     Ok(())
 }
 
-// The writer fails after each prefix.
+// The writer fails after each prefix of the stream.
 fn expect_fronts<R: Abort + AllocGlobal>(rt: &R, whole: &[u8]) -> Result<(), Fail> {
     for good in 0..whole.len() {
         let (front, _) = whole.split_at(good);
@@ -211,9 +211,8 @@ fn an_event_above_the_limit_is_refused(rt: HostRuntime) -> Result<(), Fail> {
     Ok(())
 }
 
-// An OFFERS with a resource whose `disk` has nested objects. It is read in the form of the bare
-// array; as written it nests one level too deep.
-/// nests one deeper than a text may as it is written.
+// An OFFERS whose `offers` is a bare array, with a resource whose `disk` has nested objects. The
+// canonical text of the event has one more object, and nests one level too deep.
 fn deep_text(alloc: Global) -> Result<String, Fail> {
     let open = r#"{"a":"#.repeat(alloc, MAX_NESTING - 6)?;
     let close = "}".repeat(alloc, MAX_NESTING - 6)?;
@@ -230,7 +229,7 @@ fn deep_records(alloc: Global) -> Result<String, Fail> {
     Ok(format!(in alloc; "20\n{{\"type\":\"HEARTBEAT\"}}{size}\n{text}")?)
 }
 
-// The event is too large for the limit too, but the depth is reported first.
+// The event is also larger than the limit, but the depth is reported first.
 #[test]
 fn an_event_that_nests_too_deep_is_refused(rt: HostRuntime) -> Result<(), Fail> {
     let limit = Limit::new(98).ok_or("a limit")?;
@@ -251,7 +250,7 @@ fn an_event_that_nests_too_deep_is_refused(rt: HostRuntime) -> Result<(), Fail> 
 const THREE_WRITTEN: &[u8] =
     b"20\n{\"type\":\"HEARTBEAT\"}100\n{\"type\":\"SUBSCRIBED\",\"subscribed\":{\"framework_id\":{\"value\":\"F1\"},\"heartbeat_interval_seconds\":15.0}}20\n{\"type\":\"HEARTBEAT\"}";
 
-// `THREE_WRITTEN` in one chunk.
+// The stream of `THREE_WRITTEN` in one chunk.
 const THREE_IN_A_CHUNK: &[u8] =
     b"96\r\n20\n{\"type\":\"HEARTBEAT\"}100\n{\"type\":\"SUBSCRIBED\",\"subscribed\":{\"framework_id\":{\"value\":\"F1\"},\"heartbeat_interval_seconds\":15.0}}20\n{\"type\":\"HEARTBEAT\"}\r\n0\r\n\r\n";
 
@@ -272,7 +271,7 @@ fn several_events_are_written_in_order(rt: HostRuntime) -> Result<(), Fail> {
     expect_three(&rt, Form::LongChunks, THREE_IN_A_CHUNK)
 }
 
-// The second of three events is the first that does not fit into 99 bytes.
+// The second of three events is the first that has more than 99 bytes.
 #[test]
 fn the_first_event_without_a_record_is_reported(rt: HostRuntime) -> Result<(), Fail> {
     let limit = Limit::new(99).ok_or("a limit")?;
@@ -290,7 +289,7 @@ fn the_first_event_without_a_record_is_reported(rt: HostRuntime) -> Result<(), F
     Ok(())
 }
 
-// Returns the number of writes.
+// Sends no events: exactly `bytes` must be written. Returns the number of writes.
 fn expect_none<R: Abort + AllocGlobal>(rt: &R, form: Form, bytes: &[u8]) -> Result<u64, Fail> {
     let sending = Sending {
         records: b"",
