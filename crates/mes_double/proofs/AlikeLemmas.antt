@@ -1,4 +1,4 @@
--- Offers with one identifier have one value, wherever they are.
+-- Offers with the same identifier are the same offer: in the session, in events and in the master.
 use Rattle.std.proofs.Common.{◌≡◌, ℕ, suc, ◌+◌, ◌≤◌, Bool, true, false, ◌||◌, filter, slice_get, List, [], ◌∷◌, ◌++◌, Option, Some, None, is_some, refl, sym, ap, subst, ◌∙◌, arith}
 use Rattle.std.specs.List.{list_all}
 use Rattle.std.specs.List.Sorted.{IsPermutation}
@@ -16,7 +16,7 @@ use Rattle.mes_double_master.proofs.AgainLemmas.{same_text}
 use Rattle.mes_double.proofs.ListLemmas.{apart}
 use Rattle.mes_double.proofs.CountLemmas.{count, count-first, count-later, count-found, same-in}
 
--- an outstanding offer with the same identifier is the same offer
+-- if an outstanding offer has the identifier of x, it is x
 abbrev pub IsSame : List Offer → Offer → Type 0
 IsSame out x = 1 ≤ count (name_of x) out → offer_in out (name_of x) ≡ Some x
 
@@ -60,7 +60,7 @@ pub same-each : (out other xs : List Offer) → ((x : Offer) → 1 ≤ count (na
 same-each out other [] f a = tt
 same-each out other (x ∷ xs) f a = (f x (count-first x xs) a.0, same-each out other xs (λ y h. f y (count-later (name_of y) x xs h)) a.1)
 
--- ---- fewer are outstanding
+-- ---- if outstanding offers are removed
 
 module _ (q : Offer → Bool) (alike : (a b : Offer) → name_of a ≡ name_of b → q a ≡ q b) where
   none-left : (x : Offer) (os : List Offer) → q x ≡ false → 1 ≤ count (name_of x) (filter q os) → ⊥
@@ -90,7 +90,7 @@ module _ (q : Offer → Bool) (alike : (a b : Offer) → name_of a ≡ name_of b
       by true e = found-still x out e (s (more h))
       by false e = absurd (none-left x out e h)
 
--- ---- more are outstanding
+-- ---- if outstanding offers are added
 
 found-put : (n : List ℕ) (os : List Offer) (x : Offer) → bytes_eq n (name_of x) ≡ false → offer_in (put bytes_eq name_of os x) n ≡ offer_in os n
 found-put n [] x e = rw e refl
@@ -121,7 +121,7 @@ found-own (o ∷ os) x = by (bytes_eq (name_of x) (name_of o)) refl (found-own o
     by true e rest = rw e (rw (same_text (name_of x)) refl)
     by false e rest = rw e (rw e rest)
 
--- new offers without duplicates are found with their own values
+-- new offers without duplicates are found, by identifier, among the outstanding offers
 pub new-same : (os news : List Offer) → ((x : List ℕ) → count x news ≤ 1) → AllSame (with_offers os news) news
 new-same os [] once = tt
 new-same os (x ∷ news) once =
@@ -131,16 +131,16 @@ new-same os (x ∷ news) once =
 pub more-same : (out news : List Offer) (x : Offer) → count (name_of x) news ≡ 0 → (1 ≤ count (name_of x) (with_offers out news) → 1 ≤ count (name_of x) out) → IsSame out x → IsSame (with_offers out news) x
 more-same out news x none less s h = found-with (name_of x) out news none ∙ s (less h)
 
--- ---- named offers
+-- ---- the offers that a call names
 
--- the list of one offer for each identifier
+-- the list has one offer for each identifier, in order
 abbrev pub AreOf : List Id → List Offer → Type 0
 AreOf [] [] = Unit {0}
 AreOf [] (x ∷ xs) = ⊥
 AreOf (d ∷ ds) [] = ⊥
 AreOf (d ∷ ds) (x ∷ xs) = (name_of x ≡ d.value) × AreOf ds xs
 
--- an offer that is found has the name, and is in the list
+-- an offer that is found by an identifier has this identifier, and is in the list
 found-is : (n : List ℕ) (os : List Offer) (x : Offer) → offer_in os n ≡ Some x → name_of x ≡ n
 found-is n [] x e = absurd (cc)
 found-is n (o ∷ os) x e = by (bytes_eq n (name_of o)) refl e (found-is n os x)
@@ -161,7 +161,7 @@ found-same out n (o ∷ os) x e a = by (bytes_eq n (name_of o)) refl e (λ f. fo
     by false f e rest = rest (let g : offer_in os n ≡ Some x = rw f at e in g)
 
 module _ (out hand : List Offer) (all : AllSame out hand) where
-  -- the offers of identifiers that are all outstanding
+  -- if all named offers are outstanding, the list of named offers has one for each identifier
   pub named-are : (ids : List Id) → ((i : ℕ) (d : Id) → slice_get ids i ≡ Some d → offer_in hand d.value ≡ None → ⊥) → AreOf ids (offers_named hand ids) × AllSame out (offers_named hand ids)
   named-are [] there = (tt, tt)
   named-are (d ∷ ds) there = by (offer_in hand d.value) refl (named-are ds (λ i e at. there (suc i) e at))
@@ -171,7 +171,7 @@ module _ (out hand : List Offer) (all : AllSame out hand) where
       by None e rest = absurd (there 0 d refl e)
       by (Some x) e rest = rw e ((found-is d.value hand x e, rest.0), (found-same out d.value hand x e all, rest.1))
 
--- ---- if all named offers are outstanding, those taken are a permutation of them
+-- ---- if all named offers are outstanding, the offers taken are a permutation of the named ones
 
 one-more : (d : Id) (ds : List Id) (x : Offer) (out : List Offer) → ((n : List ℕ) → count n out ≤ 1) → offer_in out d.value ≡ Some x → is_among d ds ≡ false
     → IsPermutation (x ∷ filter (names ds) out) (filter (names (d ∷ ds)) out)

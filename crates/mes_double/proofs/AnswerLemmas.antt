@@ -1,4 +1,4 @@
--- A session either allows or refuses each call.
+-- Each call is either allowed or refused by a session: each refusal is decidable.
 use Rattle.std.proofs.Common.{◌≡◌, ◌≢◌, ◌⊎◌, inl, inr, ℕ, ◌+◌, ◌<◌, ◌≤◌, Bool, true, false, ◌||◌, nat_le, List, [], ◌∷◌, length, slice_get, Option, Some, None, refl, sym, ap, subst, ◌∙◌, true≢false, arith}
 use Rattle.std.specs.Str.{bytes_eq}
 use Rattle.std.proofs.lemmas.Bool.{and_parts, leb-true}
@@ -23,7 +23,7 @@ use Rattle.mes_session_state.specs.Refusals.{IsOtherFramework, IsOtherSubscripti
 use Rattle.mes_session_state.proofs.FirstLemmas.{first-1, first-2, first-3, first-4, first-5, first-6, first-7, none-of}
 use Rattle.mes_double.proofs.SearchLemmas.{is-true, is-false, is-none, is-less, both, Search, found, nowhere, search, some, search-list}
 
--- ---- pieces of a value that are not free
+-- ---- it is decidable whether pieces of a resource's value are not free
 
 abbrev top : List Range → ℕ
 top [] = 0
@@ -95,7 +95,7 @@ module _ (free : Piece → Bool) where
       by (yes h) = yes (item h.0, h.1, h.2)
       by (no f) = no (none f)
 
--- ---- resources that do not fit
+-- ---- it is decidable whether a resource of the tasks does not fit the offers
 
 module _ (offers : List Offer) (tasks : List TaskInfo) where
   breaks : (rest : List TaskInfo) (r : Resource) → Dec (Breaks offers tasks rest r)
@@ -152,7 +152,7 @@ module _ (offers : List Offer) (tasks : List TaskInfo) where
       by (found i h before) = within i h before (of-task i)
       by (nowhere none) = unbroken (λ k l b. none k (l, b))
 
--- ---- calls of another framework
+-- ---- it is decidable whether a call is of another framework
 
 same-id : (a b : Id) → Dec (a ≡ b)
 same-id a b = by (bytes_eq a.value b.value) refl
@@ -202,7 +202,7 @@ foreign held (of.Suppress framework) = strange held framework
 foreign held (of.Shutdown framework body) = strange held framework
 foreign held (of.Message framework body) = strange held framework
 
--- ---- updates that are not unacknowledged
+-- ---- it is decidable whether a call acknowledges an update that is not unacknowledged
 
 not-owed : (owed : List OwedKey) (o : Option OwedKey) → Dec ((k : OwedKey) × (o ≡ Some k) × (is_owed k owed ≡ false))
 not-owed owed None = no (λ (h : (k : OwedKey) × (None ≡ Some k) × (is_owed k owed ≡ false)). let e : None ≡ Some h.0 = h.1 in absurd (cc))
@@ -215,7 +215,7 @@ not-owed owed (Some key) = by (is-false (is_owed key owed))
         let same : h.0 ≡ key = cc in
         f (ap (λ (k : OwedKey). is_owed k owed) (sym same) ∙ h.2))
 
--- ---- the first fault
+-- ---- the first refusal that applies, or none
 
 module _ (held : Held) (call : Call) where
   abbrev F : Refusal → Type 0

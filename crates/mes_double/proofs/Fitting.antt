@@ -1,4 +1,4 @@
--- On every course the tasks of an arrival fit the offers that it took.
+-- On every course, the tasks that an arrival launched fit the offers that the arrival took.
 use Rattle.std.proofs.Common.{◌≡◌, ℕ, ◌+◌, ◌≤◌, Bool, true, false, ◌||◌, not, ◌⊎◌, inl, inr, filter, map, slice_get, List, [], ◌∷◌, ◌++◌, Some, None, refl, sym, ap, subst, ◌∙◌, arith}
 use Rattle.std.specs.List.{list_all}
 use Rattle.std.specs.List.Sorted.{IsPermutation}
@@ -42,7 +42,8 @@ use Rattle.mes_double.proofs.RanLemmas.{Counted, counted-turn, counted-begun}
 use Rattle.mes_double.proofs.TurnLemmas.{Turn, turn, to_sent, to_heard, to_wished, arrival_of, to_answered}
 use Rattle.mes_double.proofs.TurnLemmas.Turn.{skips, offers, rescinds, reports, tells_owing, resends, hears, wishes, refuses, opens, carries, resubscribes}
 
--- the offers that a call accepted when it was sent; outstanding ones among them have the same value
+-- the offers that a call accepted when it was sent, and which its tasks fit; those that are still
+-- outstanding have the same value
 pub record Given (out : List Offer) (p : Sent) : Type 0 where
   pub list : List Offer
   pub are : AreOf (accepted_by p.call) list
@@ -56,7 +57,7 @@ pub record Fitted (c : Course) : Type 0 where
   pub given : (i : ℕ) (p : Sent) → slice_get c.world.sent i ≡ Some p → Given c.world.master.outstanding p
   pub fits : WhatRanFits c
 
--- ---- the outstanding offers change
+-- ---- `Given` after the outstanding offers change
 
 name-alike : (n : List ℕ) (a b : Offer) → name_of a ≡ name_of b → not (bytes_eq n (name_of a)) ≡ not (bytes_eq n (name_of b))
 name-alike n a b e = ap (λ (m : List ℕ). not (bytes_eq n m)) e
@@ -75,7 +76,7 @@ none-same (x ∷ xs) = (λ h. absurd (omega (arith, h)), none-same xs)
 change : (out other : List Offer) (p : Sent) → ((xs : List Offer) → AreOf (accepted_by p.call) xs → AllSame out xs → AllSame other xs) → Given out p → Given other p
 change out other p f g = record { list = g.list; are = g.are; same = f g.list g.are g.same; distinct = g.distinct; fits = g.fits }
 
--- ---- queued events
+-- ---- the offers in queued events
 
 wait : (out : List Offer) (front events : List Event) → AllSame out (brought front) → AllSame out (brought events) → AllSame out (brought (front ++ events))
 wait out front events a b =
@@ -147,10 +148,10 @@ are-named (d ∷ ds) (y ∷ ys) x a h = by (bytes_eq (name_of x) (name_of y)) re
     by false e rest = or-last (bytes_eq d.value (name_of x)) (names ds x) (rest (let g : 1 ≤ 0 + count (name_of x) ys = rw e at h in omega (arith, g)))
 
 module _ (c : Course) (j : Joined c) (k : Counted c) (t : Fitted c) where
-  -- ---- offers are made
+  -- ---- `Fitted` after the master makes offers
 
   module _ (list : List Offer) (none : is_duplicate c.world.master.offered (offer_ids list) ≡ false) where
-    -- the offers made before are others
+    -- the offers made before have other identifiers than the new ones
     more : (xs : List Offer) → ((x : Offer) → 1 ≤ count (name_of x) xs → 1 ≤ times (name_of x) c.world.master.offered) → AllSame c.world.master.outstanding xs
         → AllSame (with_offers c.world.master.outstanding list) xs
     more xs old a =
@@ -171,7 +172,7 @@ module _ (c : Course) (j : Joined c) (k : Counted c) (t : Fitted c) where
       fits = t.fits;
     }
 
-  -- ---- a call is sent
+  -- ---- `Fitted` after a call is sent
 
   wish-fit : (call : Call) (stream : List ℕ) → Answers c.world.session call None → Fitted (to_wished c call stream)
   wish-fit call stream said = record {
@@ -193,7 +194,7 @@ module _ (c : Course) (j : Joined c) (k : Counted c) (t : Fitted c) where
     fits = t.fits;
   }
 
-  -- ---- an event is received
+  -- ---- `Fitted` after an event is received
 
   hear-fit : (e : Event) (events : List Event) → c.world.waiting ≡ e ∷ events → Fitted (to_heard c e events)
   hear-fit e events w =
@@ -207,7 +208,7 @@ module _ (c : Course) (j : Joined c) (k : Counted c) (t : Fitted c) where
         fits = t.fits;
       }
 
-  -- ---- the master receives a call
+  -- ---- `Fitted` after the master receives a call
 
   module _ (index : ℕ) (p : Sent) (there : slice_get c.world.sent index ≡ Some p) where
     fits-more : (a : Arrival) → Fits a.took a.ran → (i : ℕ) (b : Arrival) → slice_get (c.arrivals ++ a ∷ []) i ≡ Some b → Fits b.took b.ran
@@ -286,7 +287,7 @@ carry-fit c j k t index p there o = by p.call p.stream there o
     by (of.Shutdown f body) stream at o = stay c j k t index _ at _ refl (λ out. tt) (fits-nothing _)
     by (of.Message f body) stream at o = stay c j k t index _ at _ refl (λ out. tt) (fits-nothing _)
 
--- ---- each move
+-- ---- `Fitted` after each move
 
 told-fit : (c : Course) (t : Fitted c) (m : MasterState) (status : TaskStatus) → m.outstanding ≡ c.world.master.outstanding → Fitted (to_sent c m (update_event status))
 told-fit c t m status same = record {

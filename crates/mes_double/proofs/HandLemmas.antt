@@ -1,4 +1,4 @@
--- The session's offers after events, if some offers were removed before.
+-- The session's offers after it receives events, if some of its offers are removed first.
 use Rattle.std.proofs.Common.{◌≡◌, ◌≤◌, Bool, true, false, not, filter, fold, map, List, [], ◌∷◌, refl, ap, ◌∙◌, arith}
 use Rattle.std.specs.List.{flat_map}
 use Rattle.std.specs.Str.{bytes_eq}
@@ -18,12 +18,12 @@ use Rattle.mes_double.proofs.ListLemmas.{filter-all, filter-turn}
 abbrev pub brought : List Event → List Offer
 brought events = flat_map (λ (e : Event). offers_of (Heard e)) events
 
--- a session that receives events
+-- the session after it receives events
 abbrev pub hears : Held → List Event → Held
 hears s events = fold (λ (s : Held) (e : Event). after s (Heard e)) s events
 
 module _ (q : Offer → Bool) (alike : (a b : Offer) → name_of a ≡ name_of b → q a ≡ q b) where
-  -- adding an offer that passes commutes with removing others
+  -- adding an offer that `q` accepts commutes with removing the offers that `q` rejects
   put-filter : (os : List Offer) (x : Offer) → q x ≡ true → put bytes_eq name_of (filter q os) x ≡ filter q (put bytes_eq name_of os x)
   put-filter [] x stays = rw stays refl
   put-filter (y ∷ ys) x stays = by (bytes_eq (name_of x) (name_of y)) refl (q y) refl (put-filter ys x stays)

@@ -1,4 +1,4 @@
--- The invariant of session, master and messages on every course.
+-- `Joined`: the invariant of session, master and messages that holds on every course.
 use Rattle.std.proofs.Common.{◌≡◌, ℕ, ◌+◌, ◌≤◌, true, false, ◌&&◌, not, map, length, slice_get, List, [], ◌∷◌, ◌++◌, Option, Some, None, refl, ap, ◌∙◌}
 use Rattle.std.specs.List.{list_any}
 use Rattle.std.specs.Str.{bytes_eq}
@@ -25,7 +25,7 @@ pub record IsLive (stream : Option (List ℕ)) (framework : Id) (arrivals : List
   pub own : agrees framework (framework_of p.call) ≡ true
   pub pending : has_arrived arrivals i ≡ false
 
--- each SUBSCRIBED of these events is for the framework
+-- each SUBSCRIBED in the list of events is for the framework
 abbrev pub Own : Id → List Event → Type 0
 Own framework [] = Unit {0}
 Own framework (e ∷ events) = ((other : Id) → subscribed_by (Heard e) ≡ Some other → other ≡ framework) × Own framework events
@@ -55,7 +55,7 @@ pub record Joined (c : Course) : Type 0 where
   -- a call that names an outstanding offer is live
   pub live : (i : ℕ) (p : Sent) (o : Offer) → slice_get c.world.sent i ≡ Some p → names (named_by p.call) o ≡ true → 1 ≤ count (name_of o) c.world.master.outstanding
       → IsLive c.world.master.stream c.world.master.framework c.arrivals i p
-  -- there is one framework
+  -- the session knows no other framework than the master's, nor does a queued SUBSCRIBED
   pub framework : (known : Id) → c.world.session.framework ≡ Some known → known ≡ c.world.master.framework
   pub own : Own c.world.master.framework c.world.waiting
   -- after a TEARDOWN there is no stream
@@ -64,7 +64,7 @@ pub record Joined (c : Course) : Type 0 where
   pub sent : (i : ℕ) → length c.world.sent ≤ i → has_arrived c.arrivals i ≡ false
   pub agrees : HandAgrees c
 
--- offers with one name are in transit together
+-- if two offers have the same identifier, either both are in transit or neither is
 pub under-alike : (c : Course) (stream : List ℕ) (a b : Offer) → name_of a ≡ name_of b → not (is_under_way c stream a) ≡ not (is_under_way c stream b)
 under-alike c stream a b e =
     ap (λ (n : List ℕ). not (list_any (λ (p : Sent). bytes_eq stream p.stream && list_any (λ (d : Id). bytes_eq d.value n) (named_by p.call)) (not_arrived c))) e

@@ -1,4 +1,4 @@
--- Sending and receiving a call keep the invariant.
+-- The invariant `Joined` holds after a call is sent or received.
 use Rattle.std.proofs.Common.{◌≡◌, ℕ, ◌+◌, ◌≤◌, ◌<◌, Bool, true, false, ◌||◌, ◌&&◌, not, inl, inr, filter, map, length, slice_get, List, [], ◌∷◌, ◌++◌, Some, None, refl, sym, ap, subst, ◌∙◌, length-append, arith}
 use Rattle.std.specs.Str.{bytes_eq}
 use Rattle.std.proofs.lemmas.Bool.{cases_eq, or_from}
@@ -32,7 +32,7 @@ use Rattle.mes_double.proofs.TurnLemmas.{to_wished, arrival_of, to_refused, to_a
 use Rattle.mes_double.proofs.WishLemmas.{named-in_hand, of-known}
 use Rattle.mes_double.proofs.Joined.{IsLive, Own, own-append, own-reported, brought-append, brought-reported, Joined}
 
--- ---- a call is sent
+-- ---- `Joined` after a call is sent
 
 module _ (c : Course) (j : Joined c) (call : Call) (stream : List ℕ) (current : c.world.master.stream ≡ Some stream) (said : Answers c.world.session call None) where
   letter : Sent
@@ -91,7 +91,7 @@ module _ (c : Course) (j : Joined c) (call : Call) (stream : List ℕ) (current 
         (let f : Some stream ≡ Some s = sym current ∙ e in cc) (agrees-now current);
   }
 
--- ---- the master receives a call, whose named offers are then not outstanding
+-- ---- the master receives a call, after which the offers that the call names are not outstanding
 
 module _ (c : Course) (j : Joined c) (index : ℕ) (p : Sent) (there : slice_get c.world.sent index ≡ Some p) (a : Arrival) (at : a.index ≡ index) where
   others : (i : ℕ) → (i ≡ index → ⊥) → has_arrived (c.arrivals ++ a ∷ []) i ≡ has_arrived c.arrivals i
@@ -191,10 +191,10 @@ module _ (c : Course) (j : Joined c) (index : ℕ) (p : Sent) (there : slice_get
           ∙ ap (filter (λ (o : Offer). not (any_way (λ (q : Sent). bytes_eq stream q.stream && names (named_by q.call) o) (c.arrivals ++ a ∷ []) 0 c.world.sent))) (sym gone);
     }
 
--- ---- the outcome
+-- ---- `Joined` after each outcome of a call that the master receives
 
 module _ (c : Course) (j : Joined c) (index : ℕ) (p : Sent) (there : slice_get c.world.sent index ≡ Some p) where
-  -- a call that is refused names no outstanding offer
+  -- a call that names an outstanding offer is not refused
   open-call : (o : Offer) → names (named_by p.call) o ≡ true → 1 ≤ count (name_of o) c.world.master.outstanding → IsOpen c.world.master p.call (Some p.stream)
   open-call o n h =
       let l : IsLive c.world.master.stream c.world.master.framework c.arrivals index p = j.live index p o there n h in
@@ -236,7 +236,7 @@ module _ (c : Course) (j : Joined c) (index : ℕ) (p : Sent) (there : slice_get
           ap (λ (a : MasterAnswer). a.status) (sym is ∙ carried c.world.master p.call (Some p.stream) (open-call o e h)) ∙ out-status c.world.master p.call in
           apart (is_done status) (ap is_done done) none
 
-  -- a SUBSCRIBE of another stream
+  -- `Joined` after a SUBSCRIBE, sent as a call, opens another stream
   pub open-joined : (uuid : List ℕ) (uuids : List (List ℕ)) → c.world.master.down ≡ false → Joined (to_answered c index p (subscribed c.world.master (uuid ∷ uuids)))
   open-joined uuid uuids up = record {
     once = j.once;
@@ -300,7 +300,7 @@ carry-joined c j index p there = by p.call p.stream there
     by (of.Shutdown f body) stream at = idle c j index _ at (plain 202 c.world.master) c.world.master.acked refl
     by (of.Message f body) stream at = idle c j index _ at (plain 202 c.world.master) c.world.master.acked refl
 
--- ---- the stream is disconnected, and the session subscribes
+-- ---- `Joined` after the stream is disconnected and the session subscribes
 
 pub resubscribe-joined : (c : Course) → Joined c → (uuid : List ℕ) (uuids : List (List ℕ)) → c.world.master.down ≡ false → Joined (to_resubscribed c (subscribed c.world.master (uuid ∷ uuids)))
 resubscribe-joined c j uuid uuids up = record {

@@ -1,4 +1,4 @@
--- The invariant of session, master and messages holds on every course.
+-- The invariant `Joined` of session, master and messages holds on every course.
 use Rattle.std.proofs.Common.{ℕ, true, ◌&&◌, not, List, [], ◌∷◌, refl, sym, ap, subst, ◌∙◌, arith}
 use Rattle.std.specs.List.{list_any}
 use Rattle.std.specs.Str.{bytes_eq}

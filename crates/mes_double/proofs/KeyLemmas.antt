@@ -1,4 +1,4 @@
--- The keys of updates: unacknowledged ones, those in events, and those that the master knows.
+-- Lemmas about the keys of updates: in the session, in events, and in the master.
 use Rattle.std.proofs.Common.{◌≡◌, ℕ, zero, suc, Bool, true, false, ◌||◌, ◌⊎◌, inl, inr, filter, fold, map, slice_get, List, [], ◌∷◌, ◌++◌, Option, Some, None, refl, sym, ap, ◌∙◌}
 use Rattle.std.specs.List.{list_any}
 use Rattle.std.specs.Option.{option_to_list}
@@ -16,7 +16,7 @@ use Rattle.mes_session.proofs.HistoryLemmas.{key-exact, key-self}
 use Rattle.mes_double_master.specs.Masters.{has_update, reconciled_event}
 use Rattle.mes_double.proofs.ListLemmas.{or-none}
 
--- ---- unacknowledged keys
+-- ---- the keys that the session has not acknowledged
 
 pub owed-fewer : (p : OwedKey → Bool) (k : OwedKey) (ks : List OwedKey) → is_owed k (filter p ks) ≡ true → is_owed k ks ≡ true
 owed-fewer p k [] e = e
@@ -82,7 +82,7 @@ owed-there (l ∷ ks) x e = by (same_key x l) refl e (owed-there ks x)
     by true f e rest = rw f (ap (λ (k : OwedKey). k ∷ ks) (key-exact x l f))
     by false f e rest = rw f (ap (λ (r : List OwedKey). l ∷ r) (rest (let g : (false || is_owed x ks) ≡ true = rw f at e in g)))
 
--- ---- keys in events
+-- ---- the keys of the UPDATEs in a list of events
 
 abbrev pub tells_key : OwedKey → List Event → Bool
 tells_key k events = list_any (λ (e : Event). is_owed k (owed_by (Heard e))) events
@@ -102,7 +102,7 @@ reports-still k front events t = reports-append k front events ∙ or_left (tell
 pub reports-last : (k : OwedKey) (front : List Event) (e : Event) → is_owed k (owed_by (Heard e)) ≡ true → tells_key k (front ++ e ∷ []) ≡ true
 reports-last k front e t = reports-append k front (e ∷ []) ∙ or_right (tells_key k front) (tells_key k (e ∷ [])) (or_left (is_owed k (owed_by (Heard e))) false t)
 
--- a status sent for a RECONCILE has no key
+-- a status without a UUID, such as one sent for a RECONCILE, has no key
 no-key : (task : Id) (agent : Option Id) → key_by task agent None ≡ None
 no-key task None = refl
 no-key task (Some a) = refl
@@ -112,7 +112,7 @@ told-none k [] = refl
 told-none k (status ∷ statuses) =
     ap (λ (o : Option OwedKey). is_owed k (option_to_list o) || tells_key k (map reconciled_event statuses)) (no-key status.task_id status.agent_id) ∙ told-none k statuses
 
--- ---- keys that the master knows
+-- ---- the keys of the updates that the master has sent
 
 pub owing-more : (owing : List (OwedKey × TaskStatus)) (key : OwedKey) (status : TaskStatus) (k : OwedKey) → has_update owing k ≡ true → has_update (owing ++ (key, status) ∷ []) k ≡ true
 owing-more [] key status k e = absurd (cc)

@@ -28,15 +28,16 @@ use Rattle.mes_double.proofs.TurnLemmas.{Turn, turn, to_wished, to_heard, arriva
 use Rattle.mes_double.proofs.TurnLemmas.Turn.{skips, offers, rescinds, reports, tells_owing, resends, hears, wishes, refuses, opens, carries, resubscribes}
 
 pub record Keyed (c : Course) : Type 0 where
-  -- each acknowledged key was received
+  -- each key that is acknowledged, unacknowledged in the session, or in a sent call was received
   pub acked : (k : OwedKey) → is_owed k c.world.master.acked ≡ true → tells_key k c.heard ≡ true
   pub owed : (k : OwedKey) → is_owed k c.world.session.owed ≡ true → tells_key k c.heard ≡ true
   pub sent : (i : ℕ) (p : Sent) (k : OwedKey) → slice_get c.world.sent i ≡ Some p → acknowledged_by p.call ≡ Some k → tells_key k c.heard ≡ true
-  -- each received or queued key is known to the master
+  -- each key that was received or is queued is that of an update that the master sent
   pub heard : (k : OwedKey) → tells_key k c.heard ≡ true → has_update c.world.master.owing k ≡ true
   pub waits : (k : OwedKey) → tells_key k c.world.waiting ≡ true → has_update c.world.master.owing k ≡ true
   pub owing : (i : ℕ) (x : OwedKey × TaskStatus) → slice_get c.world.master.owing i ≡ Some x → owed_key_of x.1 ≡ Some x.0
-  -- each arrival is of the call sent at its index, and an ACKNOWLEDGE with status 202 is recorded
+  -- each arrival has the call that was sent at its index; an ACKNOWLEDGE with status 202 is
+  -- recorded
   pub place : (i : ℕ) (a : Arrival) → slice_get c.arrivals i ≡ Some a → slice_get c.world.sent a.index ≡ Some a.sent
   pub done : (i : ℕ) (a : Arrival) (k : OwedKey) → slice_get c.arrivals i ≡ Some a → a.status ≡ 202 → acknowledged_by a.sent.call ≡ Some k → is_owed k c.world.master.acked ≡ true
 
@@ -51,7 +52,7 @@ told-key : (status : TaskStatus) (o : Option OwedKey) → owed_key_of status ≡
 told-key status o e k t = ap (λ (p : Option OwedKey). is_owed k (option_to_list p)) (sym e) ∙ t
 
 module _ (c : Course) (j : Keyed c) where
-  -- ---- a call is sent
+  -- ---- `Keyed` after a call is sent
 
   wish-keyed : (call : Call) (stream : List ℕ) → Answers c.world.session call None → Keyed (to_wished c call stream)
   wish-keyed call stream said = record {
@@ -68,7 +69,7 @@ module _ (c : Course) (j : Keyed c) where
     done = j.done;
   }
 
-  -- ---- an event is received
+  -- ---- `Keyed` after an event is received
 
   hear-keyed : (e : Event) (events : List Event) → c.world.waiting ≡ e ∷ events → Keyed (to_heard c e events)
   hear-keyed e events w =
@@ -91,7 +92,7 @@ module _ (c : Course) (j : Keyed c) where
         done = j.done;
       }
 
-  -- ---- the master receives a call
+  -- ---- `Keyed` after the master receives a call
 
   module _ (index : ℕ) (p : Sent) (there : slice_get c.world.sent index ≡ Some p) where
     place-more : (a : Arrival) → a.index ≡ index → a.sent ≡ p → (i : ℕ) (b : Arrival) → slice_get (c.arrivals ++ a ∷ []) i ≡ Some b → slice_get c.world.sent b.index ≡ Some b.sent

@@ -1,7 +1,7 @@
--- Lists that are filtered, and lists that are appended to.
+-- Lemmas about `filter` on lists, and about lists with one more element.
 use Rattle.std.proofs.Common.{◌≡◌, ℕ, zero, suc, Bool, true, false, ◌||◌, ◌&&◌, not, ◌⊎◌, inl, inr, filter, fold, length, slice_get, List, [], ◌∷◌, ◌++◌, Some, refl, sym, ap, ◌∙◌}
 
--- ---- equal Booleans
+-- ---- Booleans
 
 pub not-of : (b c : Bool) → b ≡ c → not b ≡ not c
 not-of b c e = ap not e
@@ -29,7 +29,7 @@ apart true e f = absurd (cc)
 apart false e f = absurd (cc)
 
 module _ {X : Type 0} where
-  -- ---- a filter that passes all, or none
+  -- ---- `filter` with a test that is always true, or always false
 
   pub filter-all : (xs : List X) → filter (λ x. true) xs ≡ xs
   filter-all [] = refl
@@ -39,7 +39,7 @@ module _ {X : Type 0} where
   filter-none [] = refl
   filter-none (x ∷ xs) = filter-none xs
 
-  -- ---- two tests in sequence
+  -- ---- `filter` with two tests, one after the other
 
   pub filter-two : (a b c : X → Bool) → ((x : X) → (b x && a x) ≡ c x) → (xs : List X) → filter a (filter b xs) ≡ filter c xs
   filter-two a b c same [] = refl
@@ -68,7 +68,7 @@ module _ {X : Type 0} where
       and-swap false true = refl
       and-swap false false = refl
 
-  -- ---- one more element
+  -- ---- lists with one more element at the end
 
   pub get-last : (xs : List X) (y : X) → slice_get (xs ++ y ∷ []) (length xs) ≡ Some y
   get-last [] y = refl

@@ -1,4 +1,4 @@
--- The steps of a move taken together.
+-- The contracts of the functions that make a move imply the effect of the move.
 use Rattle.std.proofs.Common.{◌≡◌, ℕ, Bool, true, false, ◌⊎◌, inl, inr, Result, Ok, Err, OnOk, IsErr, slice_get, List, [], ◌∷◌, ◌++◌, Option, Some, None, refl, sym, ap, subst, ◌∙◌}
 use Rattle.mes_model.specs.Id.{Id}
 use Rattle.mes_model.specs.declared.framework_info.FrameworkInfo.{FrameworkInfo}
@@ -21,7 +21,7 @@ use Rattle.mes_double.proofs.ListLemmas.{apart, filter-all}
 use Rattle.mes_double.proofs.ReachLemmas.{out-status, Reached, reach}
 use Rattle.mes_double.proofs.ReachLemmas.Reached.{turned, opened, did}
 
--- ---- events of the master
+-- ---- the master sends an event
 
 module _ {T E : Type 0} where
   pub sent-ok : (result : Result T E) (w v : WorldState) (sends : Sends) (m : MasterState) (e : Event) → sends ≡ Ok (e, m)
@@ -47,7 +47,7 @@ module _ {T E : Type 0} where
   resent-err (Ok t) w u v sends same why (inr is) reported h = h ∙ ap (sending w) (sym is ∙ ap sends (sym same))
   resent-err (Err x) w u v sends same why reason reported h = tt
 
--- ---- received events
+-- ---- the session receives an event
 
 module _ {T E : Type 0} where
   pub heard-first : (result : Result T E) (w u v : WorldState) (e : Event) (rest : List Event) → u ≡ w → u.waiting ≡ e ∷ rest
@@ -59,7 +59,7 @@ pub heard-none : (w u v : WorldState) (rest : List Event) → u ≡ w → (u.wai
 heard-none w u v rest same is h =
     h ∙ ap (λ (l : List Event). skip (record u { waiting = l })) (is.1 ∙ sym is.0) ∙ ap (hearing u) (sym is.0) ∙ ap (λ (x : WorldState). hearing x x.waiting) same
 
--- ---- responses
+-- ---- the master responds to a call
 
 pub not-done : (m : MasterState) (call : Call) (given : Option (List ℕ)) → is_done (handled m call given).status ≡ false → (handled m call given).master ≡ m
 not-done m call given none = by (reach m call given)
@@ -92,7 +92,7 @@ module _ {T E : Type 0} where
   arrives-ok (Ok t) w v index p status events m there a h = h ∙ taken w p status events m a ∙ ap (arriving w) (sym there)
   arrives-ok (Err x) w v index p status events m there a h = tt
 
-  -- ---- calls of the session
+  -- ---- the session sends a call
 
   pub said-ok : (result : Result T E) (w v : WorldState) (s : Held) (call : Call) (stream : List ℕ) → w.master.stream ≡ Some stream → Applied w.session call s
       → OnOk result (v ≡ record w { session = s; sent = w.sent ++ record { call = call; stream = stream } ∷ [] }) → OnOk result (Wishes w call w.master.stream v)
@@ -110,7 +110,7 @@ said-err w v s call stream why current a same h =
 pub wish-none : (w v : WorldState) (call : Call) → w.master.stream ≡ None → v ≡ skip w → Wishes w call w.master.stream v
 wish-none w v call none h = subst (λ (o : Option (List ℕ)). Wishes w call o v) (sym none) h
 
--- a SUBSCRIBE does not change the session
+-- a SUBSCRIBE that the session sends does not change its state
 pub subscribe-said : (s : Held) (known : Option Id) (info : FrameworkInfo) → after s (Said (subscribe_call known info)) ≡ s
 subscribe-said s known info = λ i. record { framework = s.framework; connected = s.connected; hand = filter-all s.hand i; owed = filter-all s.owed i }
 

@@ -1,4 +1,4 @@
--- Moves lead to one world.
+-- Each list of moves has at most one course.
 use Rattle.std.proofs.Common.{◌≡◌, ℕ, ◌++◌, List, [], ◌∷◌, Option, Some, None, refl, sym, ap, subst, ◌∙◌}
 use Rattle.mes_model.specs.Id.{Id}
 use Rattle.mes_msg.specs.Call.{Call}
@@ -11,7 +11,7 @@ use Rattle.mes_double.specs.Worlds.{WorldState, wishing, Wishes, Happens}
 use Rattle.mes_double.specs.Courses.{Course, begun, Follows, Leads, IsCourse}
 
 module _ (once : (held : Held) (call : Call) (fault other : Refusal) → IsRefused held call fault → IsRefused held call other → fault ≡ other) where
-  -- a call is refused for one reason, or allowed
+  -- a session has one outcome for each call: allowed, or one refusal
   one-answer : (held : Held) (call : Call) (a b : Option Refusal) → Answers held call a → Answers held call b → a ≡ b
   one-answer held call None None f g = refl
   one-answer held call None (Some y) f g = absurd (f g.0 g.2.is)
@@ -49,7 +49,7 @@ module _ (once : (held : Held) (call : Call) (fault other : Refusal) → IsRefus
   pub one-course : (framework : Id) (ids : List (List ℕ)) (list : List Move) (c d : Course) → IsCourse framework ids list c → IsCourse framework ids list d → c ≡ d
   one-course framework ids list c d f g = one-end (begun framework ids) (begun framework ids) list c d refl f g
 
--- ---- one more move
+-- ---- a list with one more move
 
 pub leads-more : (c d e : Course) (list : List Move) (move : Move) → Leads c list d → Follows d move e → Leads c (list ++ move ∷ []) e
 leads-more c d e [] move l f = (e, subst (λ (x : Course). Follows x move e) l f, refl)

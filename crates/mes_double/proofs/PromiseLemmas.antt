@@ -1,4 +1,4 @@
--- Every course keeps the promises.
+-- Every course keeps the promises of `world_laws`.
 use Rattle.std.proofs.Common.{◌≡◌, ℕ, ◌≤◌, List, length, take}
 use Rattle.mes_model.specs.Id.{Id}
 use Rattle.mes_double.specs.declared.moves.Move.{Move}

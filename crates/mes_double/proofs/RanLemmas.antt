@@ -1,5 +1,5 @@
--- On every course no task is launched twice and no offer is taken twice: each identifier is
--- counted.
+-- On every course no task is launched twice and no offer is taken twice. The proof counts how often
+-- each identifier occurs.
 use Rattle.std.proofs.Common.{◌≡◌, ℕ, ◌+◌, ◌≤◌, not, List, [], ◌∷◌, ◌++◌, Some, refl, sym, ap, subst, ◌∙◌, arith}
 use Rattle.std.specs.Str.{bytes_eq}
 use Rattle.std.proofs.lemmas.Grind.{flat_map-append}
@@ -22,7 +22,7 @@ use Rattle.mes_double.proofs.TurnLemmas.Turn.{skips, offers, rescinds, reports, 
 
 pub record Counted (c : Course) : Type 0 where
   pub once : Once c.world.master.offered
-  -- what was taken or is outstanding was offered
+  -- each offer that was taken or is outstanding was made, and is counted once
   pub took : (x : List ℕ) → count x (all_took c.arrivals) + count x c.world.master.outstanding ≤ times x c.world.master.offered
   pub ran : c.world.master.launched ≡ ids_of (all_ran c.arrivals)
   pub launched : Once c.world.master.launched

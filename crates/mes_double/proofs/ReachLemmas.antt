@@ -1,4 +1,5 @@
--- The outcome of a call that the master receives: refused, a new stream, or carried out.
+-- A call that the master receives has one of three outcomes: it is refused, opens a new stream, or
+-- is carried out on the current stream.
 use Rattle.std.proofs.Common.{◌≡◌, ℕ, Bool, true, false, ◌||◌, not, if◌then◌else◌, List, [], ◌∷◌, Option, Some, None, refl, ap, ◌∙◌}
 use Rattle.std.proofs.lemmas.Bool.{or_parts}
 use Rattle.mes_msg.specs.Call.{Call}
@@ -8,7 +9,7 @@ use Rattle.mes_double_master.specs.Masters.{MasterState, plain, subscribed, agre
 use Rattle.mes_double_master.proofs.AgainLemmas.{IsOpen, carried}
 use Rattle.mes_double.specs.Worlds.{is_done}
 
--- a call that is carried out has status 202
+-- the response to a call that is carried out on the current stream has status 202
 pub out-status : (m : MasterState) (call : Call) → (carried_out m call).status ≡ 202
 out-status m (of.Subscribe framework body) = refl
 out-status m (of.Accept framework body) = refl

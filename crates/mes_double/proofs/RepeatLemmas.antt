@@ -1,4 +1,4 @@
--- A call with status 202 changes nothing when it arrives again.
+-- An ACCEPT, a DECLINE or an ACKNOWLEDGE with status 202 changes nothing when it arrives again.
 use Rattle.std.proofs.Common.{◌≡◌, ℕ, zero, suc, ◌≤◌, ◌==◌, Bool, true, false, ◌||◌, not, if◌then◌else◌, slice_get, List, [], ◌∷◌, ◌++◌, Option, Some, refl, sym, ap, subst, ◌∙◌}
 use Rattle.std.specs.Str.{bytes_eq}
 use Rattle.std.proofs.lemmas.List.{append-nil}
@@ -28,7 +28,7 @@ use Rattle.mes_double.proofs.Joined.{IsLive, Joined}
 use Rattle.mes_double.proofs.JoinedRuns.{joined}
 use Rattle.mes_double.proofs.Keyed.{Keyed, keyed}
 
--- a call in a list of arrivals has arrived
+-- `has_arrived` is true for the index of each call in the list of arrivals
 arrived : (arrivals : List Arrival) (i : ℕ) (a : Arrival) → slice_get arrivals i ≡ Some a → has_arrived arrivals a.index ≡ true
 arrived [] i a e = absurd (cc)
 arrived (b ∷ arrivals) zero a e =

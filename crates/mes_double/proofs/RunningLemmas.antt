@@ -1,4 +1,4 @@
--- The world after the moves so far.
+-- Lemmas about the loop of `run_world`: the world after the moves made so far.
 use Rattle.std.proofs.Common.{Ok, Err, ◌≡◌, ℕ, zero, suc, length, get_or, ◌+◌, ◌≤◌, ◌<◌, Bool, true, false, if◌then◌else◌, List, [], ◌∷◌, ◌++◌, take, slice_get, Option, Some, None, refl, sym, ap, subst, ◌∙◌, arith}
 use Rattle.std.proofs.lemmas.List.{take_more}
 use Rattle.mes_model.specs.Id.{Id}
@@ -56,7 +56,7 @@ few w later (moves.Wish call) h = few-wished w later call w.master.stream h
 few w later (moves.Arrive index) h = subst (λ (x : WorldState). x.skipped ≤ w.skipped + 1) (sym h) (few-arrived w (slice_get w.sent index))
 few w later moves.Resubscribe h = subst (λ (x : WorldState). x.skipped ≤ w.skipped + 1) (sym h) (few-opened w (subscribe_answer w))
 
--- ---- the moves so far
+-- ---- `MovesSoFar`: the loop's invariant
 
 pub record MovesSoFar (framework : Id) (ids : List (List ℕ)) (made : List Move) (count : ℕ) (world : WorldState) : Type 0 where
   pub course : Course
@@ -84,7 +84,7 @@ so-far-more framework ids made count world later move s h =
       skipped = omega (arith, few world later move h, s.skipped);
     }
 
--- ---- over a list of moves
+-- ---- `MovesSoFar` after one more move, and at the end of the list
 
 take-past : (list : List Move) (n : ℕ) → length list ≤ n → take n list ≡ list
 take-past [] zero past = refl

@@ -31,9 +31,9 @@ both {P} {Q} (no f) (no g) = no by
     by (inl p) = f p
     by (inr q) = g q
 
--- ---- numbers
+-- ---- searches for a number with a property
 
--- the first number with the property, or there is none
+-- the least number with the property, or a proof that no number has the property
 pub data Search (P : ℕ → Type 0) : Type 0 where
   found : (n : ℕ) → P n → ((k : ℕ) → k < n → P k → ⊥) → Search P
   nowhere : ((n : ℕ) → P n → ⊥) → Search P
@@ -70,7 +70,7 @@ module _ (P : ℕ → Type 0) (either : (n : ℕ) → Dec (P n)) where
       by (found n p first) = yes (n, p)
       by (nowhere none) = no (λ h. none h.0 h.1)
 
--- ---- lists
+-- ---- searches for an element of a list with a property
 
 module _ {X : Type 0} (P : X → Type 0) (either : (x : X) → Dec (P x)) (xs : List X) where
   abbrev pub At : ℕ → Type 0

@@ -1,4 +1,4 @@
--- Each list of moves leads to a world.
+-- Each list of moves has a course.
 use Rattle.std.proofs.Common.{ℕ, ◌++◌, List, [], ◌∷◌, Option, Some, None, refl}
 use Rattle.mes_model.specs.Id.{Id}
 use Rattle.mes_msg.specs.Call.{Call}

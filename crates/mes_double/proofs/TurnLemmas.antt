@@ -1,4 +1,4 @@
--- The outcome of a move, in a dozen cases.
+-- `Turn`: the course after one move, in a dozen cases.
 use Rattle.std.proofs.Common.{◌≡◌, ℕ, Bool, true, false, if◌then◌else◌, slice_get, take, List, [], ◌∷◌, ◌++◌, Option, Some, None, is_some, Ok, Err, refl, ap, ◌∙◌}
 use Rattle.std.proofs.lemmas.List.{append-nil}
 use Rattle.mes_model.specs.Id.{Id}
@@ -28,7 +28,7 @@ use Rattle.mes_double.specs.Courses.{Arrival, Course, arrival, Follows}
 use Rattle.mes_double.proofs.ReachLemmas.{out-status, Reached, reach}
 use Rattle.mes_double.proofs.ReachLemmas.Reached.{turned, opened, did}
 
--- ---- the course after each
+-- ---- the course after each kind of move
 
 abbrev pub to_world : Course → WorldState → Course
 to_world c w = record c { world = w }
@@ -70,7 +70,7 @@ pub data Turn (c d : Course) : Type 0 where
       → d ≡ to_answered c index p (carried_out c.world.master p.call) → Turn c d
   resubscribes : (uuid : List ℕ) (uuids : List (List ℕ)) → c.world.master.down ≡ false → d ≡ to_resubscribed c (subscribed c.world.master (uuid ∷ uuids)) → Turn c d
 
--- ---- the case of each move
+-- ---- each move is one of the cases
 
 module _ (c d : Course) where
   stays : (w : WorldState) → d.world ≡ w → d.heard ≡ c.heard ++ [] → d.arrivals ≡ c.arrivals ++ [] → d ≡ to_world c w

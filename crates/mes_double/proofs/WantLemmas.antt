@@ -59,7 +59,7 @@ handled-wants w v index p same is reported =
     by (inl f) = ap is_done f
     by (inr f) = ap is_done f.0
 
--- the moves so far lead to a world in which an allocation may fail in the next
+-- if an allocation may fail in the move after those made so far, the list of moves may want memory
 pub so-far-wants : (framework : Id) (ids : List (List ℕ)) (list : List Move) (index : ℕ) (world : WorldState) → MovesSoFar framework ids (take index list) index world
     → (move : Move) → index < length list → move ≡ get_or list index move → MayWant world move → WantsMemory framework ids list
 so-far-wants framework ids list index world s move within is wants = record {

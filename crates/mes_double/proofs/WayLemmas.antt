@@ -1,4 +1,4 @@
--- The calls in transit: when one more is sent, and when one arrives.
+-- The calls in transit after one more call is sent, and after a call arrives.
 use Rattle.std.proofs.Common.{◌≡◌, ℕ, zero, suc, ◌+◌, ◌<◌, Bool, true, false, ◌||◌, ◌&&◌, not, ◌==◌, length, slice_get, List, [], ◌∷◌, ◌++◌, Some, refl, sym, ap, ◌∙◌, arith}
 use Rattle.std.specs.List.{list_any}
 use Rattle.std.proofs.lemmas.Bool.{eq-eqb, ne_eqb}
@@ -58,7 +58,7 @@ module _ (test : Sent → Bool) where
         ∙ (λ i. (not (arrived-other arrivals a at (λ e. omega arith) i) && test p) || way-following (suc at) ps (omega arith) i)
         ∙ sym (way-cons arrivals at p ps)
 
-    -- a call arrives, for the first time or again
+    -- the calls in transit after a call arrives, for the first time or again
     pub way-arrives : (at : ℕ) (ps : List Sent) (k : ℕ) (p : Sent) → slice_get ps k ≡ Some p → a.index ≡ at + k
         → (any_way (arrivals ++ a ∷ []) at ps || (not (has_arrived arrivals a.index) && test p)) ≡ any_way arrivals at ps
     way-arrives at [] k p there is = absurd (cc)

@@ -1,4 +1,5 @@
--- Properties of a call that a session allows.
+-- Properties of a call that a session allows: its offers, its acknowledged update and its
+-- framework.
 use Rattle.std.proofs.Common.{◌≡◌, ℕ, suc, ◌≤◌, Bool, true, false, ◌||◌, inr, slice_get, List, [], ◌∷◌, Option, Some, None, refl, sym, ap, subst, ◌∙◌}
 use Rattle.std.specs.Str.{bytes_eq}
 use Rattle.std.proofs.lemmas.Slice.Eq.{bytes_eq-Decides}
@@ -62,7 +63,7 @@ not-strange s framework fine = by s.framework refl
     by None e = absurd (fine (inr (λ (g : s.framework ≡ Some framework). let h : None ≡ Some framework = sym e ∙ g in absurd (cc))))
     by (Some known) e = apart known e (bytes_eq known.value framework.value) refl
 
--- a call that names offers is of the known framework
+-- an allowed call that names offers is of the framework that the session knows
 pub of-known : (s : Held) (call : Call) (o : Offer) → Answers s call None → names (named_by call) o ≡ true → (framework : Id) → ((known : Id) → s.framework ≡ Some known → known ≡ framework)
     → agrees framework (framework_of call) ≡ true
 of-known s call o said e framework one = by call said e

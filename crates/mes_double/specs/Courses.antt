@@ -1,4 +1,4 @@
--- A sequence of moves, with the events received and the calls that arrived.
+-- The course of a list of moves: the final world, the events received, and the calls that arrived.
 use Rattle.std.specs.Prelude.{◌≡◌, ℕ, List, [], ◌∷◌, ◌++◌, take, slice_get, Option, Some, None}
 use Rattle.mes_model.specs.Id.{Id}
 use Rattle.mes_model.specs.Offer.{Offer}
@@ -11,7 +11,7 @@ use Rattle.mes_double.specs.Worlds.{WorldState, new_world, answer_to, Happens}
 
 -- a sent call that the master received, for the first time or again, refused or not
 pub record Arrival : Type 0 where
-  -- its index among the sent calls
+  -- the index of the call in the list of sent calls
   pub index : ℕ
   pub sent : Sent
   -- the status of the response, the offers taken, and the tasks launched
@@ -44,13 +44,13 @@ abbrev pub arrived_by : WorldState → Move → List Arrival
 arrived_by w (moves.Arrive index) = arrival w index (slice_get w.sent index)
 arrived_by w _ = []
 
--- the course after one more move
+-- relates a course to the course after one more move
 pub record Follows (c : Course) (move : Move) (d : Course) : Type 0 where
   pub world : Happens c.world move d.world
   pub heard : d.heard ≡ c.heard ++ heard_by c.world move
   pub arrivals : d.arrivals ≡ c.arrivals ++ arrived_by c.world move
 
--- the course to which these moves lead
+-- relates a course to the course after these moves
 abbrev pub Leads : Course → List Move → Course → Type 0
 Leads c [] d = d ≡ c
 Leads c (move ∷ more) d = (e : Course) × Follows c move e × Leads e more d

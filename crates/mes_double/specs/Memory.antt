@@ -12,7 +12,7 @@ use Rattle.mes_double.specs.declared.sent.Sent.{Sent}
 use Rattle.mes_double.specs.Worlds.{WorldState, is_done, answer_to}
 use Rattle.mes_double.specs.Courses.{Course, IsCourse}
 
--- receiving the first of the events may allocate
+-- there is a queued event, and the session may allocate when it receives the first one
 abbrev pub HearingWants : List Event → Type 0
 HearingWants [] = ⊥
 HearingWants (event ∷ events) = NeedsMemory event
@@ -27,7 +27,7 @@ abbrev pub ArrivingWants : WorldState → Option Sent → Type 0
 ArrivingWants w None = ⊥
 ArrivingWants w (Some p) = is_done (answer_to w p).status ≡ true
 
--- the move would be made; or it is an update on a stream or a SUBSCRIBE, which allocate first
+-- the move would be made; or is an update on a stream or a SUBSCRIBE, which may allocate and fail
 abbrev pub MayWant : WorldState → Move → Type 0
 MayWant w (moves.Offer offers) = IsOk (offers_sent w.master offers)
 MayWant w (moves.Rescind name) = IsOk (rescind_sent w.master name)

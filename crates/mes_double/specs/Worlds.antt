@@ -31,7 +31,7 @@ pub record WorldState : Type 0 where
 abbrev pub new_world : Id → List (List ℕ) → WorldState
 new_world framework ids = record { master = new_master framework ids; session = at_first; waiting = []; sent = []; skipped = 0 }
 
--- one more skipped move can be counted
+-- the count of skipped moves is below its maximum, 2^64 - 1
 abbrev pub HasRoom : WorldState → Type 0
 HasRoom w = w.skipped < 18446744073709551615
 
@@ -39,31 +39,31 @@ HasRoom w = w.skipped < 18446744073709551615
 abbrev pub skip : WorldState → WorldState
 skip w = record w { skipped = w.skipped + 1 }
 
--- ---- events
+-- ---- moves with events
 
--- an event of the master is queued
+-- the world after the master sends an event, which is queued; a refused event is skipped
 abbrev pub sending : WorldState → Sends → WorldState
 sending w (Ok sent) = record w { master = sent.1; waiting = w.waiting ++ sent.0 ∷ [] }
 sending w (Err why) = skip w
 
--- the first event is received, and the others stay queued
+-- the world after the session receives the first event, if any; the others stay queued
 abbrev pub hearing : WorldState → List Event → WorldState
 hearing w [] = skip w
 hearing w (event ∷ events) = record w { session = after w.session (Heard event); waiting = events }
 
--- ---- calls
+-- ---- moves with calls
 
--- a call that the session allows is sent with the id of the stream; a refused one is skipped
+-- the world after a call: sent with the stream's id, or skipped if the session refuses the call
 abbrev pub wishing : WorldState → Call → List ℕ → Option Refusal → WorldState
 wishing w call stream None = record w { session = after w.session (Said call); sent = w.sent ++ record { call = call; stream = stream } ∷ [] }
 wishing w call stream (Some why) = skip w
 
--- the session allows or refuses the call; without a stream the move is skipped
+-- the effect of a call that the session allows or refuses; skipped without a current stream
 abbrev pub Wishes : WorldState → Call → Option (List ℕ) → WorldState → Type 0
 Wishes w call None later = later ≡ skip w
 Wishes w call (Some stream) later = (answer : Option Refusal) × Answers w.session call answer × (later ≡ wishing w call stream answer)
 
--- whether a call was carried out
+-- true for the statuses 200 and 202 of a call that was carried out
 abbrev pub is_done : ℕ → Bool
 is_done status = status == 200 || status == 202
 
@@ -71,11 +71,11 @@ is_done status = status == 200 || status == 202
 abbrev pub answer_to : WorldState → Sent → MasterAnswer
 answer_to w p = handled w.master p.call (Some p.stream)
 
--- a call was carried out, and the events of the response are queued
+-- the world after a response: its events are queued; a refused call is skipped
 abbrev pub answering : WorldState → MasterAnswer → WorldState
 answering w answer = if is_done answer.status then record w { master = answer.master; waiting = w.waiting ++ answer.events } else skip w
 
--- the master receives a sent call
+-- the world after the master receives a sent call, if there is one
 abbrev pub arriving : WorldState → Option Sent → WorldState
 arriving w None = skip w
 arriving w (Some p) = answering w (answer_to w p)
@@ -100,11 +100,11 @@ world_info = record {
 abbrev pub subscribe_answer : WorldState → MasterAnswer
 subscribe_answer w = handled w.master (subscribe_call w.session.framework world_info) None
 
--- if it was carried out, the session is disconnected and the queue is replaced
+-- after a SUBSCRIBE that was carried out, the session is disconnected and the queue replaced
 abbrev pub resubscribing : WorldState → MasterAnswer → WorldState
 resubscribing w answer = if is_done answer.status then record w { master = answer.master; session = after w.session Broken; waiting = answer.events } else skip w
 
--- ---- the same after the response
+-- ---- like `answering` and `resubscribing`, for a world that has the master's new state
 
 abbrev pub taking : WorldState → ℕ → List Event → WorldState
 taking w status events = if is_done status then record w { waiting = w.waiting ++ events } else skip w
@@ -114,7 +114,7 @@ reopening w status events = if is_done status then record w { session = after w.
 
 -- ---- each move
 
--- the effect of a move; for a call, by what the session decides
+-- relates a world and a move to the world after the move
 abbrev pub Happens : WorldState → Move → WorldState → Type 0
 Happens w (moves.Offer offers) later = later ≡ sending w (offers_sent w.master offers)
 Happens w (moves.Rescind name) later = later ≡ sending w (rescind_sent w.master name)

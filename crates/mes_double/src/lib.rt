@@ -7,8 +7,9 @@
 //!
 //! The contracts state the world after each list of moves. `world_laws` proves what holds in every
 //! world, such as that no task is launched twice. The crates `mes_double_master` (the master) and
-//! `mes_double_http` (heads) are re-exported here. Their tests are in `mes_double_master_tests` and
-//! `mes_double_http_tests`; `mes_double_worlds` is a program that runs lists of moves.
+//! `mes_double_http` (HTTP heads) are re-exported here. Their tests are in
+//! `mes_double_master_tests` and `mes_double_http_tests`; `mes_double_worlds` is a program that
+//! runs lists of moves.
 
 mod moves;
 mod running;

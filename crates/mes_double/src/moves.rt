@@ -1,11 +1,11 @@
-//! The moves between a session and a master. `running.rt` makes a list of them.
+//! The moves of a session and a master. `running.rt` makes the moves of a list.
 
 use mes_json::Text;
 use mes_model::{List, Offer, TaskStatus};
 use mes_msg::Call;
 
-/// A move between a session and a test master. A move that is impossible or refused changes nothing
-/// and is counted as skipped.
+/// One step of a world: an action of the session or of the test master. A move that is impossible
+/// or refused changes nothing and is counted as skipped.
 #[derive(Drop)]
 pub enum Move {
     /// The master makes offers and queues an OFFERS. Refused without a stream (M1) or for a
@@ -28,7 +28,8 @@ pub enum Move {
     /// The master receives the call that was sent at this index, for the first time or again. With
     /// status 200 or 202 the events of the response are queued; any other status is a refusal.
     Arrive(usize),
-    /// The master receives a SUBSCRIBE. If it is carried out, the stream is first disconnected and
-    /// the queued events are lost. If it is refused, the stream and the queue stay.
+    /// The master receives a SUBSCRIBE. If the SUBSCRIBE is carried out, the session's stream is
+    /// disconnected, the queued events are lost, and the events of the response are queued. If the
+    /// SUBSCRIBE is refused, the stream and the queue stay.
     Resubscribe,
 }

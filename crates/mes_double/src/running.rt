@@ -17,16 +17,17 @@ use uuid::Uuid;
 /// The course of the moves keeps the promises of `world_laws`, whatever is lost, delayed or
 /// repeated. Each move has the effect that the contracts of `Session` and `Master` state.
 ///
-/// Errors: `NoMemory` if an allocation fails in a move that may need memory (`MayWant`). That is a
-/// move that would be made, an update on a stream, or a SUBSCRIBE. Such a move is not counted as
-/// skipped.
+/// Errors: `NoMemory` if an allocation fails. An allocation is only needed for a move that would be
+/// made, for an update on a stream, or for a SUBSCRIBE (`MayWant`). A move that fails in this way
+/// is not counted as skipped.
 pub fn run_world(
     alloc: Global,
     framework: Id,
     ids: Vec<Uuid>,
     moves: &[Move],
 ) -> Result<World, NoMemory>
-    // On success: the final world of the moves, whose course keeps all promises.
+    // On success: the result is the final world of the moves, and the course of the moves keeps all
+    // promises of `world_laws`.
     ensures ok { IfOk result (λ world. (c : Course) × IsCourse framework ids.items moves.now c
         × KeepsPromises c × (c.world ≡ world)) }
     ensures memory { OnErr result (WantsMemory framework ids.items moves.now) }

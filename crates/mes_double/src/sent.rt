@@ -1,4 +1,4 @@
-//! Calls in transit.
+//! A call that a session has sent.
 
 use mes_double_http::StreamId;
 use mes_msg::Call;
@@ -8,6 +8,6 @@ use mes_msg::Call;
 pub struct Sent {
     /// The call.
     pub call: Call,
-    /// The stream's id.
+    /// The id of the stream that was current when the call was sent.
     pub stream: StreamId,
 }

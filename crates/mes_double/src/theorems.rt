@@ -9,13 +9,14 @@ use mes_session_state::refusal_laws;
 
 /// Proves what holds after any list of moves, whatever is lost, late or repeated:
 /// - each acknowledged update was received;
-/// - no task is launched twice, no offer is taken twice, and the tasks of a call fit the offers it
-///   took;
+/// - no task is launched twice, no offer is taken twice, and the tasks that a call launches fit the
+///   offers that the call takes;
 /// - an ACCEPT, a DECLINE or an ACKNOWLEDGE with status 202 changes nothing when it arrives again;
 /// - on a current stream, after the queued events, the session's offers are the outstanding ones
 ///   without those that a call in transit names.
 ///
-/// Each list of moves has exactly one course.
+/// A course is the final world with the events received and the calls that arrived. Each list of
+/// moves has exactly one course.
 pub fn world_laws()
     // Each list of moves has a course.
     ensures some { (framework : Id) (ids : List (List ℕ)) (list : List Move)
@@ -32,16 +33,18 @@ pub fn world_laws()
     // No offer is taken twice.
     ensures taken { (framework : Id) (ids : List (List ℕ)) (list : List Move) (c : Course)
         → IsCourse framework ids list c → TakenOnce c }
-    // The tasks of a call fit the offers it took.
+    // The tasks that a call launches fit the offers that the call takes.
     ensures fits { (framework : Id) (ids : List (List ℕ)) (list : List Move) (c : Course)
         → IsCourse framework ids list c → WhatRanFits c }
-    // A repeated call changes nothing.
+    // An ACCEPT, a DECLINE or an ACKNOWLEDGE with status 202 changes nothing when it arrives again.
     ensures again { (framework : Id) (ids : List (List ℕ)) (list : List Move) (c : Course)
         → IsCourse framework ids list c → AgainMovesNothing c }
-    // On a current stream the session's offers are the outstanding ones without those in transit.
+    // On a current stream, after the queued events, the session's offers are the outstanding ones
+    // without those that a call in transit names.
     ensures agrees { (framework : Id) (ids : List (List ℕ)) (list : List Move) (c : Course)
         → IsCourse framework ids list c → HandAgrees c }
-    // With nothing in transit, the session's offers are the outstanding ones.
+    // On a current stream, with no queued event and no call in transit, the session's offers are
+    // the outstanding ones.
     ensures same { (framework : Id) (ids : List (List ℕ)) (list : List Move) (c : Course)
         → IsCourse framework ids list c → AllAgrees c }
 {

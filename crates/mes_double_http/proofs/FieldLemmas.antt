@@ -11,7 +11,7 @@ use Rattle.mes_double_http.specs.declared.fields.Named.TheVariants.{Nothing, One
 abbrev pub values_from : List ℕ → List ℕ → List HeaderSpan → ℕ → List (List ℕ)
 values_from name bytes headers i = values_named name (map (header_bytes bytes) (drop i headers))
 
--- the values before the index were found
+-- `found` is the result of the search in the fields before index i, and the fields from i on remain
 pub record Follows (found : Named) (name bytes : List ℕ) (headers : List HeaderSpan) (i : ℕ) : Type 0 where
   pub before : List (List ℕ)
   pub is : IsNamed found before

@@ -1,4 +1,4 @@
--- Heads read byte by byte.
+-- Lemmas about the loops that read the head of a response or a request byte by byte.
 use Rattle.std.proofs.Common.{◌≡◌, ◌≢◌, ℕ, zero, suc, ◌+◌, ◌-◌, ◌≤◌, ◌<◌, List, [], ◌∷◌, ◌++◌, length, take, drop, Option, subst, sym, ap, ◌∙◌, arith, refl, length-append, length-take, append-nil, inl, inr}
 use Rattle.std.proofs.Math.Seq.{take-append_seam, take-append-add}
 use Rattle.std.proofs.lemmas.List.{nil_from_length, length-map}
@@ -18,7 +18,7 @@ use Rattle.mes_double_http.proofs.TargetLemmas.{in_target, target_goes_on, targe
 use Rattle.mes_double_http.proofs.Nothing.{request-pends, response-pends}
 use Rattle.mes_double_http.specs.declared.limits.TheConstants.{MAX_HEAD, MAX_FIELDS}
 
--- the invariant of the loop: no head is complete yet, and one may follow
+-- the loop's invariant: no head is complete in the bytes read, and they may be the beginning of one
 pub record TakesResponse (before after : Option (List ℕ)) (old new : Counts) (taken : List ℕ) : Type 0 where
   pub took : Consumes before after taken
   pub gives : GaveEach (length taken) old new
@@ -85,7 +85,7 @@ pub response-start : (before : Option (List ℕ)) (counts : Counts) (taken : Lis
 response-start before counts taken none = subst (TakesResponse before before counts counts) (sym none)
     (record { took = Consumes-nil before; gives = (omega arith, (refl, refl)); bytes = omega arith; pends = response-pends })
 
--- the invariant of the loop: no head is complete yet, and one may follow
+-- the loop's invariant: no head is complete in the bytes read, and they may be the beginning of one
 pub record TakesRequest (before after : Option (List ℕ)) (old new : Counts) (taken : List ℕ) : Type 0 where
   pub took : Consumes before after taken
   pub gives : AllGive old new

@@ -1,4 +1,4 @@
--- Digits counted one by one, up to a bound.
+-- The number in a Content-Length, computed digit by digit up to `MAX_BODY + 1`.
 use Rattle.std.proofs.Common.{◌≡◌, ℕ, ◌+◌, ◌-◌, ◌*◌, ◌<◌, ◌≤◌, min, List, length, take, get_or, IsTrue, subst, sym, arith}
 use Rattle.std.proofs.lemmas.Bool.Decides.{nat_tests}
 use Rattle.std.proofs.lemmas.Int.Digits.{digits_value_more}
@@ -9,7 +9,7 @@ use Rattle.std.specs.Str.Parse.{digits_value}
 use Rattle.httparse.specs.Grammar.{AllPass}
 use Rattle.mes_double_http.specs.declared.limits.TheConstants.{MAX_BODY}
 
--- the first bytes are digits, and their number is counted up to the bound
+-- the first i bytes are digits; `counted` is the number that they write, or MAX_BODY + 1 if larger
 pub record CountsDigits (value : List ℕ) (counted i : ℕ) : Type 0 where
   pub digits : AllPass is_ascii_digit (take i value)
   pub number : counted ≡ min (digits_value 10 (take i value)) (MAX_BODY + 1)

@@ -1,4 +1,4 @@
--- The complete lines of a head.
+-- The number of complete lines in the first bytes of a head.
 use Rattle.std.proofs.Common.{◌≡◌, ◌≢◌, ℕ, ◌+◌, ◌≤◌, Bool, true, false, List, [], ◌∷◌, ◌++◌, length, codes, count_by, All, ◌==◌, if◌then◌else◌, Option, Some, None, refl, sym, ap, ◌∙◌, subst, arith, append-nil}
 use Rattle.std.proofs.lemmas.Bool.{false≢true, ne_eqb}
 use Rattle.std.proofs.lemmas.List.Sums.{sum_by-cons, sum_by-append}
@@ -90,7 +90,7 @@ feeds_fields (f ∷ fields) all =
 feeds_section : (fields : List Field) (last : LineEnd) → All IsField fields → feeds (print_section fields last) ≡ length fields + 1
 feeds_section fields last all = omega (arith, feeds-append (flat_map print_field fields) (print_end last), feeds_fields fields all, feeds_end last)
 
--- ---- the start line
+-- ---- line feeds in a start line, and the number of lines of a whole head
 
 from_other : (xs : List ℕ) → Stops is_newline xs → from_start_line xs ≡ xs
 from_other [] stops = absurd stops
@@ -152,7 +152,7 @@ lines_response h is =
       feeds_section h.fields h.last is.fields,
     )
 
--- ---- more bytes
+-- ---- lines that one more byte completes
 
 append_step : (t : Bool) (b : ℕ) (xs ys : List ℕ) → lines xs ≤ lines (xs ++ ys)
     → feeds (if t then from_start_line xs else b ∷ xs) ≤ feeds (if t then from_start_line (xs ++ ys) else b ∷ (xs ++ ys))

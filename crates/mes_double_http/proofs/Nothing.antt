@@ -1,4 +1,4 @@
--- Before the first byte no head is complete, and any may follow.
+-- The empty sequence of bytes has no complete head, and any head may begin so.
 use Rattle.std.proofs.Common.{◌≡◌, ℕ, List, [], ◌∷◌, ◌++◌, length, codes, None, ap, ◌∙◌, arith, rules, refl, inl}
 use Rattle.httparse.specs.Grammar.{lf, print_blank, print_version, print_request, RequestHead, HasNoRequest, MayBecomeRequest, print_response, ResponseHead, HasNoResponse, MayBecomeResponse}
 use Rattle.httparse.specs.Ascii.{space}

@@ -1,4 +1,4 @@
--- No reason phrase exceeds the capacity of a head's line.
+-- The reason phrase of each status code fits the capacity for the head of a response.
 use Rattle.std.proofs.Common.{◌≡◌, ℕ, ◌==◌, ◌≤◌, List, length, Bool, true, false, Option, Some, codes, if◌then◌else◌, nat_le, arith, refl}
 use Rattle.std.proofs.lemmas.Bool.Decides.{nat_tests}
 use Rattle.mes_double_http.specs.Texts.{phrase_text, or_nothing}

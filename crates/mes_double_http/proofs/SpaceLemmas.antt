@@ -1,4 +1,4 @@
--- The first space of a text.
+-- Lemmas about the position of the first space of a text.
 use Rattle.std.proofs.Common.{◌≡◌, ℕ, ◌+◌, ◌-◌, ◌<◌, ◌≤◌, ◌==◌, Bool, true, false, not, cond, List, [], ◌∷◌, ◌++◌, length, take, drop, get_or, Some, None, position, nat_lt, refl, sym, ap, ◌∙◌, arith, length-take, get_or-take, length-drop, take-append-drop}
 use Rattle.std.specs.List.{position_or_len}
 use Rattle.std.proofs.lemmas.Bool.{eqb-true}

@@ -1,4 +1,4 @@
--- A head that ends inside the target of a request.
+-- Lemmas about the first bytes of a request that end inside its target.
 use Rattle.std.proofs.Common.{◌≡◌, ◌≢◌, ℕ, ◌+◌, ◌-◌, ◌<◌, true, not, List, [], ◌∷◌, ◌++◌, length, take, drop, codes, refl, sym, ap, ◌∙◌, subst, arith, rules, append_assoc, inl, inr, length-append}
 use Rattle.std.proofs.lemmas.Bool.{false≢true, ne_eqb}
 use Rattle.std.proofs.Math.Seq.{take-append_seam, take-append-add}
@@ -33,7 +33,7 @@ before_unspaced : (blank : List LineEnd) (method : List ℕ) → IsToken method 
 before_unspaced blank method token =
     All-append (λ (b : ℕ). is_no_space b ≡ true) (print_blank blank) method (blank_unspaced blank) (token_unspaced method token.1)
 
--- ---- a prefix that may continue, and one more byte
+-- ---- IsInTarget implies EndsInTarget, if the bytes before the last one may become a request
 
 before_last : (front a t : List ℕ) (b : ℕ) → front ++ b ∷ [] ≡ a ++ 32 ∷ t → 0 < length t → front ≡ a ++ 32 ∷ take (length t - 1) t
 before_last front a t b is some =
@@ -46,7 +46,7 @@ before_last front a t b is some =
 same_before : (a c r q : List ℕ) → AllPass is_no_space a → AllPass is_no_space c → a ++ 32 ∷ r ≡ c ++ 32 ∷ q → a ≡ c
 same_before a c r q alone other is = (run_unique is_no_space a c (32 ∷ r) (32 ∷ q) alone other refl refl is).0
 
--- what follows the method and its space is the target
+-- the bytes after the method and one space are the target
 target_behind : (taken : List ℕ) (t : IsInTarget taken) (blank : List LineEnd) (method : List ℕ) → IsToken method → t.front ≡ print_blank blank ++ method → EndsInTarget taken
 target_behind taken t blank method token same =
     (blank, method, t.target, token, t.visible, t.is ∙ ap (λ (a : List ℕ). a ++ 32 ∷ t.target) same)
@@ -67,7 +67,7 @@ target_goes_on front taken b more (inr (blank, method, target, token, visible, i
     target_behind taken t blank method token
     (same_before t.front (print_blank blank ++ method) last target t.unspaced (before_unspaced blank method token) (sym before ∙ is))
 
--- ---- the converse
+-- ---- EndsInTarget implies IsInTarget, if no request can begin with the bytes
 
 some_target : (blank : List LineEnd) (method taken : List ℕ) → IsToken method → taken ≡ print_blank blank ++ method ++ 32 ∷ [] → NeverHasRequest taken → ⊥
 some_target blank method taken token is never =
@@ -90,13 +90,13 @@ in_target taken (blank, method, b ∷ target, token, visible, is) never = record
   visible = visible;
 }
 
--- inside a target no field line is complete
+-- bytes that end inside the target contain no complete field line
 pub target_lines : (taken : List ℕ) → EndsInTarget taken → field_lines taken ≡ 0
 target_lines taken (blank, method, target, token, visible, is) =
     field_lines_start blank (method ++ 32 ∷ target) taken (is ∙ append_assoc (print_blank blank) method (32 ∷ target)) (Stops_token method (32 ∷ target) token.0 token.1)
     (omega (arith, feeds-append method (32 ∷ target), feeds_token method token.1, feeds-other 32 target (λ e. omega (arith, e)), feeds_uri target visible))
 
--- ---- the target, found by the first space
+-- ---- the bytes after the first space are the target
 
 pub target_split : (taken front rest : List ℕ) → taken ≡ front ++ 32 ∷ rest → AllPass is_no_space front → IsInTarget taken → (0 < length rest) × AllPass is_uri_byte rest
 target_split taken front rest is unspaced t =

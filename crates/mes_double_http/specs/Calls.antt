@@ -15,39 +15,39 @@ use Rattle.mes_msg.specs.declared.send_fault.SendFault.TheVariants.{Encode, NoMe
 use Rattle.mes_double_http.specs.Texts.{call_head}
 use Rattle.mes_double_http.specs.declared.limits.TheConstants.{MAX_BODY}
 
--- the head, then the canonical text of the call
+-- the whole request: the head, then the canonical text of the call
 abbrev pub call_bytes : List ℕ → Option (List ℕ) → Call → List ℕ
 call_bytes host stream c = call_head host stream (length (canonical_of call c)) ++ canonical_of call c
 
--- a body can hold the call
+-- the canonical text of the call nests at most MAX_NESTING deep and has at most MAX_BODY bytes
 abbrev pub IsGoodCall : Call → Type 0
 IsGoodCall c = Fits call c MAX_BODY
 
--- the reason for which no body can
+-- the reason for which no body can contain the call: too deep or too large
 abbrev pub IsBadCall : Call → EncodeFaultKind → Type 0
 IsBadCall c TooDeep = IsRefusalOf call c MAX_BODY refused.TooDeep
 IsBadCall c TooLarge = IsRefusalOf call c MAX_BODY refused.TooLarge
 
--- the reported fault of a call without a text: index 0 is the call
+-- the fault that `write_call` reports if the call has no text; index 0 is the call
 abbrev pub unmade : EncodeFault → SendFault
 unmade refused.TooDeep = Encode 0 TooDeep
 unmade refused.TooLarge = Encode 0 TooLarge
 unmade refused.NoMemory = NoMemory
 
--- the reason for which there is no request
+-- the fault is the reason for which the call has no request: too deep, too large, or no memory
 abbrev pub IsUnmade : Call → SendFault → Type 0
 IsUnmade c (Encode index why) = (index ≡ 0) × IsBadCall c why
 IsUnmade c NoMemory = Unit {0}
 IsUnmade c (Write fault) = ⊥
 
--- a body can hold the call, and its request is written
+-- the text of the call fits a body, and the whole request is written
 pub record WroteCall {W : Type 0} (written : W → Option (List ℕ)) (counts : W → Counts) (host : List ℕ) (stream : Option (List ℕ)) (c : Call) (old new : W) : Type 0 where
   pub good : IsGoodCall c
   pub out : Appends (written old) (written new) (call_bytes host stream c)
   pub none_fails : NoneFails (counts old) (counts new)
   pub calls : CallsFor (length (call_bytes host stream c)) (counts old) (counts new)
 
--- the writer was not called, because the call does not fit or memory ran out; or the writer stopped
+-- the call does not fit a body or memory ran out, and nothing was written; or the writer stopped
 abbrev pub StopsCall : {W : Type 0} → (W → Option (List ℕ)) → (W → Counts) → List ℕ → Option (List ℕ) → Call → W → W → SendFault → Type 0
 StopsCall written counts host stream c old new (Encode index why) = (index ≡ 0) × IsBadCall c why × (new ≡ old)
 StopsCall written counts host stream c old new NoMemory = new ≡ old

@@ -1,4 +1,4 @@
--- How reading a head or a body ends, by the counts of its reader.
+-- How the reading of a head or a body ends, stated by the reader's counts of calls.
 use Rattle.std.specs.Prelude.{◌≡◌, ℕ}
 use Rattle.mes_frame.specs.Counts.{up}
 use Rattle.mes_frame.specs.declared.counts.Counts.{Counts}

@@ -1,9 +1,9 @@
--- The printed fault of a head.
+-- The printed form of a `HeadFault`, such as `H4 Status 403`.
 use Rattle.std.specs.Prelude.{List, ℕ, [], ◌++◌, codes, decimal}
 use Rattle.mes_double_http.specs.declared.fault.HeadFault.{HeadFault}
 use Rattle.mes_double_http.specs.declared.fault.HeadFault.TheVariants as fault
 
--- its number and its name
+-- the number and the name of the fault
 abbrev pub head_fault_title : HeadFault → List ℕ
 head_fault_title fault.Read = codes "H1 Read"
 head_fault_title fault.HeadTooLong = codes "H2 HeadTooLong"
@@ -19,7 +19,7 @@ head_fault_title fault.BodyTooLong = codes "H11 BodyTooLong"
 head_fault_title fault.ShortBody = codes "H12 ShortBody"
 head_fault_title fault.NoMemory = codes "H13 NoMemory"
 
--- after them, the code of an unexpected status
+-- the text after the number and the name: a space and the status code for H4, else nothing
 abbrev pub head_fault_details : HeadFault → List ℕ
 head_fault_details (fault.Status code) = codes " " ++ decimal code
 head_fault_details _ = []

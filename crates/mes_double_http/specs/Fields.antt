@@ -25,7 +25,7 @@ only [] = None
 only (v ∷ []) = Some v
 only (v ∷ w ∷ vs) = None
 
--- the result of a search for these values
+-- the result of a search, if these are the values of the fields with the name
 abbrev pub IsNamed : Named → List (List ℕ) → Type 0
 IsNamed Nothing vs = vs ≡ []
 IsNamed (One v) vs = vs ≡ v.now ∷ []

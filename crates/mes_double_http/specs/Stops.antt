@@ -1,4 +1,4 @@
--- How reading a head ends before the head is complete.
+-- The reasons for which the reading of a head ends before the head is complete.
 use Rattle.std.specs.Prelude.{◌≡◌, ℕ, Bool, not, ◌==◌, ◌<◌, List, ◌∷◌, ◌++◌, length}
 use Rattle.httparse.specs.Ascii.{space}
 use Rattle.httparse.specs.Grammar.{AllPass, is_uri_byte, RequestHead, ResponseHead}
@@ -15,14 +15,14 @@ use Rattle.mes_double_http.specs.declared.head.HeadStop.{HeadStop}
 use Rattle.mes_double_http.specs.declared.head.HeadStop.TheVariants.{Read, TooLong, Refused, Ended}
 use Rattle.mes_double_http.specs.declared.limits.TheConstants.{MAX_HEAD}
 
--- the reported fault
+-- the `HeadFault` that is reported for the reason
 abbrev pub stop_fault : HeadStop → HeadFault
 stop_fault Read = fault.Read
 stop_fault TooLong = fault.HeadTooLong
 stop_fault Refused = fault.BadHead
 stop_fault Ended = fault.BadHead
 
--- no byte is read: the reader failed or ended
+-- the reader failed or ended instead of returning a byte
 abbrev pub StopsByte : HeadStop → Counts → Counts → Type 0
 StopsByte Read old new = OneFails old new
 StopsByte Ended old new = OneEnds old new

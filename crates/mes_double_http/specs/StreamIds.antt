@@ -6,6 +6,6 @@ use Rattle.mes_double_http.specs.declared.limits.TheConstants.{MAX_STREAM_ID}
 abbrev pub IsVisible : ℕ → Type 0
 IsVisible b = (0x21 ≤ b) × (b ≤ 0x7e)
 
--- 1 to 128 visible characters
+-- a valid stream id has 1 to 128 visible ASCII characters
 abbrev pub IsStreamId : List ℕ → Type 0
 IsStreamId text = (1 ≤ length text) × (length text ≤ MAX_STREAM_ID) × All IsVisible text

@@ -1,5 +1,5 @@
--- The heads that are written (RFC 9112 sections 3 to 5): lines end with CR LF, an empty line is
--- last.
+-- The heads that are written (RFC 9112 sections 3 to 5): each line ends with CR LF, and the last
+-- line is empty.
 use Rattle.std.specs.Prelude.{ℕ, List, [], ◌++◌, Option, None, Some, codes, decimal}
 use Rattle.http.specs.StatusCode.{reason_phrase}
 
@@ -23,18 +23,18 @@ status_text code =
     codes "HTTP/1.1 " ++ decimal code ++ codes " " ++ phrase_text code
     ++ codes "\r\nContent-Length: 0\r\nConnection: close\r\n\r\n"
 
--- the line with the stream id, or nothing
+-- the line with the stream id, or nothing without an id
 abbrev pub stream_line : Option (List ℕ) → List ℕ
 stream_line None = []
 stream_line (Some id) = codes "Mesos-Stream-Id: " ++ id ++ codes "\r\n"
 
--- the head of a request before that line
+-- the part of a request's head before the line with the stream id
 unfoldable pub call_front : List ℕ → List ℕ
 call_front host =
     codes "POST /api/v1/scheduler HTTP/1.1\r\nHost: " ++ host
     ++ codes "\r\nContent-Type: application/json\r\nAccept: application/json\r\n"
 
--- the head of a request after that line
+-- the part of a request's head after the line with the stream id
 unfoldable pub call_rest : ℕ → List ℕ
 call_rest size = codes "Connection: close\r\nContent-Length: " ++ decimal size ++ codes "\r\n\r\n"
 

@@ -32,7 +32,7 @@ pub(crate) fn take_body<S: Source>(
     Ok(body)
 }
 
-/// Reads at most `left` bytes with one call and appends them.
+/// Reads at most `left` bytes with one call of the reader, and appends them to `body`.
 fn take_part<S: Source>(reader: &mut S, left: usize, body: &mut Vec<u8>) -> Result<(), HeadFault>
     requires { 0 < left }
     ensures { (part : List ℕ) × Consumes (S.left reader.old) (S.left reader.new) part

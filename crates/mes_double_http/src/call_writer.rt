@@ -1,4 +1,5 @@
-//! Writing of a call as a request: the head and the canonical text. `request.rt` reads one.
+//! Writing of a call as a request: the head, and the canonical text of the call. `request.rt` reads
+//! such a request.
 
 ghost use Rattle.std.specs.Prelude.{◌≡◌, ◌++◌, ◌≤◌, length, All, Some, option_map, IfOk, IfErr, OnOk};
 ghost use Rattle.mes_double_http.specs.Calls.{IsGoodCall, IsUnmade, StopsCall, WroteCall, call_bytes, unmade};
@@ -24,12 +25,13 @@ pub fn write_call<W: Sink>(
     requires least { 1 ≤ length host.now }
     requires greatest { length host.now ≤ MAX_HOST }
     requires visible { All IsVisible host.now }
-    // On success: the call fits, and the whole request is written.
+    // On success: the canonical text of the call has at most `MAX_BODY` bytes, and the whole
+    // request is written.
     ensures ok { OnOk result (WroteCall W.written W.counts host.now
         (option_map (λ id. id.now) stream.entry) call.now writer.old writer.new) }
 
-    // Each error: the call does not fit, or out of memory; the writer was not called. Or the writer
-    // stopped after the first `sent` bytes.
+    // On error: the canonical text of the call is too deep or too large for a body, or memory ran
+    // out, and the writer was not called; or the writer stopped after the first `sent` bytes.
     ensures err { IfErr result (StopsCall W.written W.counts host.now
         (option_map (λ id. id.now) stream.entry) call.now writer.old writer.new) }
 {
@@ -76,7 +78,7 @@ fn unmade(fault: EncodeFault) -> SendFault
     }
 }
 
-/// Returns the head of a request with this body, and the body.
+/// Returns a whole request: its head, followed by this body.
 fn request_bytes(
     alloc: Global,
     host: &str,
@@ -95,7 +97,7 @@ fn request_bytes(
     Ok(bytes)
 }
 
-/// Appends the head before the line with the stream id.
+/// Appends the part of the head that precedes the line with the stream id.
 fn push_front(bytes: &mut Vec<u8>, host: &str) -> Result<(), AllocError>
     ensures { OnOk result (bytes.new.items ≡ bytes.old.items ++ call_front host.now) }
 {
@@ -125,7 +127,8 @@ fn push_stream_line(bytes: &mut Vec<u8>, id: &str) -> Result<(), AllocError>
     Ok(())
 }
 
-/// Appends the head after that line for a body of `size` bytes.
+/// Appends the part of the head that follows the line with the stream id, for a body of `size`
+/// bytes.
 fn push_rest(bytes: &mut Vec<u8>, size: usize) -> Result<(), AllocError>
     ensures { OnOk result (bytes.new.items ≡ bytes.old.items ++ call_rest size) }
 {

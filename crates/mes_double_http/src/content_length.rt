@@ -8,8 +8,8 @@ use crate::fields::{Named, find_field};
 use crate::limits::{MAX_BODY, MAX_LENGTH_DIGITS};
 use httparse::spans::HeaderSpan;
 
-/// Returns the length in the fields, or `MAX_BODY + 1` for any larger one; `None` if it is missing,
-/// ambiguous or invalid.
+/// Returns the length of the body that the fields state, or `MAX_BODY + 1` for any larger length;
+/// `None` if the length is missing, ambiguous or invalid.
 pub(crate) fn body_length(bytes: &[u8], headers: &[HeaderSpan]) -> Option<u32>
     requires { All (IsHeaderWithin (length bytes.now)) headers.now }
     ensures { MatchOption result
@@ -27,7 +27,8 @@ pub(crate) fn body_length(bytes: &[u8], headers: &[HeaderSpan]) -> Option<u32>
     }
 }
 
-/// Returns the number of a Content-Length, or `MAX_BODY + 1` for any larger one.
+/// Returns the number in the value of a Content-Length, or `MAX_BODY + 1` for any larger number;
+/// `None` if the value is invalid.
 fn length_of(value: &[u8]) -> Option<u32>
     ensures { MatchOption result ((n : ℕ) → IsLength value.now n
         → ⊥) (λ reported. (n : ℕ) × IsLength value.now n × (reported ≡ min n (MAX_BODY + 1))) }

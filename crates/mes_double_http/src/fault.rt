@@ -15,16 +15,16 @@ use itoa::Buffer;
 pub enum HeadFault {
     /// H1: the reader failed.
     Read,
-    /// H2: `MAX_HEAD` bytes were read, and the head may still continue.
+    /// H2: `MAX_HEAD` bytes were read, and they may be the beginning of a longer head.
     HeadTooLong,
     /// H3: the bytes are not a head, there are more than `MAX_FIELDS` fields, the reader ended, or
     /// the status is less than 100.
     BadHead,
-    /// H4: the status is not the expected one.
+    /// H4: the status of the response is not the expected one; the variant has the status.
     Status(StatusCode),
     /// H5: the body is not chunked.
     NotChunked,
-    /// H6: the body is not JSON.
+    /// H6: the media type of the body is not `application/json`.
     NotJson,
     /// H7: the stream id is missing, repeated or invalid.
     NoStreamId,
@@ -43,8 +43,8 @@ pub enum HeadFault {
 }
 
 impl HeadFault {
-    /// Replaces `text` with the number and the name, and for `Status` the code: `H4 Status 403`.
-    /// Does not allocate.
+    /// Replaces `text` with the number and the name of the fault, and for `Status` also the status
+    /// code: `H4 Status 403`. Does not allocate.
     pub fn text(&self, text: &mut ArrayString<MAX_HEAD_FAULT>)
         ensures { text.new.bytes ≡ head_fault_text self.now }
     {

@@ -7,7 +7,7 @@ ghost use Rattle.mes_double_http.specs.Fields.{IsNamed, values_named};
 
 use httparse::spans::HeaderSpan;
 
-/// The values of a field name in a head.
+/// The values of the fields of a head that have a given name.
 #[derive(Clone, Copy, Debug, PartialEq, Eq)]
 pub(crate) enum Named<'b> {
     /// No field has the name.
@@ -18,7 +18,7 @@ pub(crate) enum Named<'b> {
     More,
 }
 
-/// Returns the values of a name in the fields.
+/// Returns the values of the fields with this name.
 pub(crate) fn find_field<'b>(bytes: &'b [u8], headers: &[HeaderSpan], name: &[u8]) -> Named<'b>
     requires { All (IsHeaderWithin (length bytes.now)) headers.now }
     ensures { IsNamed result (values_named name.now (map (header_bytes bytes.now) headers.now)) }

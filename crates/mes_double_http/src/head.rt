@@ -19,7 +19,7 @@ use mes_frame::Source;
 pub(crate) enum HeadStop {
     /// The reader failed.
     Read,
-    /// `MAX_HEAD` bytes were read, and a head may still begin so.
+    /// `MAX_HEAD` bytes were read, and they may be the beginning of a longer head.
     TooLong,
     /// The bytes are not a head, or have more than `MAX_FIELDS` fields.
     Refused,
@@ -39,7 +39,7 @@ impl HeadStop {
     }
 }
 
-/// Reads the head of a response into `taken`, and returns the places of its parts.
+/// Reads the head of a response into `taken`, and returns the spans of its parts in `taken`.
 pub(crate) fn take_response<S: Source>(
     reader: &mut S,
     taken: &mut ArrayVec<u8, MAX_HEAD>,
@@ -70,7 +70,7 @@ pub(crate) fn take_response<S: Source>(
     Err(HeadStop::TooLong)
 }
 
-/// Reads the head of a request into `taken`, and returns the places of its parts.
+/// Reads the head of a request into `taken`, and returns the spans of its parts in `taken`.
 pub(crate) fn take_request<S: Source>(
     reader: &mut S,
     taken: &mut ArrayVec<u8, MAX_HEAD>,

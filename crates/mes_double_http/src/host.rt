@@ -1,4 +1,4 @@
-//! The host that a client's calls name.
+//! The host to which a client sends its calls.
 
 ghost use Rattle.std.specs.Prelude.{◌≡◌, ◌↔◌, All, IsTrue, IsSome, IfSome};
 ghost use Rattle.mes_double_http.specs.StreamIds.{IsVisible};

@@ -8,9 +8,9 @@
 //!     let request = read_request(alloc, &mut source)?;
 //!     write_ok(&mut sink, &id)?;
 //!
-//! The contracts promise that exactly a valid head and its body were read, or its first fault
-//! ([`HeadFault`]). The tests check that a written call is read back. The crate `mes_double_master`
-//! has the master's state. The tests are in `mes_double_http_tests`.
+//! The contracts of the readers promise that exactly a valid head and its body were read, or that
+//! the error is the first fault ([`HeadFault`]). The tests check that a written call is read back.
+//! The crate `mes_double_master` has the master's state. The tests are in `mes_double_http_tests`.
 
 mod body;
 mod call_writer;

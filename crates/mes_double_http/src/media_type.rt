@@ -6,7 +6,7 @@ ghost use Rattle.mes_double_http.specs.Fields.{before_semicolon, is_json_type};
 
 use crate::fields::same_text;
 
-/// Returns whether the value of a Content-Type is JSON, with any parameters.
+/// Returns whether the value of a Content-Type is `application/json`, with or without parameters.
 pub(crate) fn is_json_type(value: &[u8]) -> bool
     ensures { result ≡ is_json_type value.now }
 {

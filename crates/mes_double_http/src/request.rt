@@ -39,7 +39,8 @@ struct Announced {
 /// Reads a request, and nothing after its body. If the head is refused, nothing after the head is
 /// read.
 pub fn read_request<S: Source>(alloc: Global, reader: &mut S) -> Result<Request, HeadFault>
-    // On success: exactly a valid head and its body were read. Each error: the first fault.
+    // On success: exactly a valid head and its body were read. Each error: the first fault of the
+    // request.
     ensures { (taken : List ℕ) × Consumes (S.left reader.old) (S.left reader.new) taken
         × MatchResult result
         (λ request. IsWholeCall taken request.stream request.body.items

@@ -1,4 +1,4 @@
-//! Reading of response heads. `answer_writer.rt` writes them.
+//! Reading of response heads. `response_writer.rt` writes them.
 
 ghost use Rattle.std.specs.Prelude.{ℕ, List, length, MatchResult};
 ghost use Rattle.std.specs.Io.KnownBytes.{Consumes};
@@ -20,13 +20,14 @@ use mes_frame::Source;
 /// The status of a response with a stream of events (RFC 9110 section 15.3.1).
 const OK: u16 = 200;
 
-/// The status of the response to any other call (RFC 9110 section 15.3.3).
+/// The status of the response to a call other than SUBSCRIBE (RFC 9110 section 15.3.3).
 const ACCEPTED: u16 = 202;
 
 /// Reads the head of the response to a SUBSCRIBE, and nothing after it, and returns the stream id.
 /// Does not allocate.
 pub fn read_head<S: Source>(reader: &mut S) -> Result<StreamId, HeadFault>
-    // On success: exactly a valid head was read, a byte per call. Each error: the first fault.
+    // On success: exactly a valid head was read, a byte per call. Each error: the first fault of
+    // the head.
     ensures { (taken : List ℕ) × Consumes (S.left reader.old) (S.left reader.new) taken
         × MatchResult result
         (λ id. OpensStream taken id × GaveEach (length taken) (S.counts reader.old)
@@ -44,7 +45,7 @@ pub fn read_head<S: Source>(reader: &mut S) -> Result<StreamId, HeadFault>
 /// Reads the head of the response to a call other than SUBSCRIBE, and nothing after it. Does not
 /// allocate.
 pub fn read_answer<S: Source>(reader: &mut S) -> Result<(), HeadFault>
-    // On success: exactly a head with status 202 was read. Each error: the first fault.
+    // On success: exactly a head with status 202 was read. Each error: the first fault of the head.
     ensures { (taken : List ℕ) × Consumes (S.left reader.old) (S.left reader.new) taken
         × MatchResult result
         (λ _. Accepts taken × AllGive (S.counts reader.old) (S.counts reader.new))
@@ -58,7 +59,7 @@ pub fn read_answer<S: Source>(reader: &mut S) -> Result<(), HeadFault>
     }
 }
 
-/// Returns the stream id of a head, or its first fault.
+/// Returns the stream id in the head of a response, or the first fault of the head.
 fn stream_opened(
     taken: &[u8],
     headers: &[HeaderSpan],

@@ -1,4 +1,4 @@
-//! The rules for the fields of a head.
+//! Checks of a head's status and fields: transfer coding, media type, stream id.
 
 ghost use Rattle.std.specs.Prelude.{◌≡◌, ◌<◌, ◌≤◌, ℕ, List, Option, length, map, All, MatchOption, MatchResult};
 ghost use Rattle.httparse.specs.Spans.{IsHeaderWithin, header_bytes};
@@ -24,7 +24,7 @@ pub(crate) fn is_chunked(bytes: &[u8], headers: &[HeaderSpan]) -> bool
     }
 }
 
-/// Returns whether the body is JSON.
+/// Returns whether the head has exactly one Content-Type, of the media type `application/json`.
 pub(crate) fn is_json(bytes: &[u8], headers: &[HeaderSpan]) -> bool
     requires { All (IsHeaderWithin (length bytes.now)) headers.now }
     ensures { result ≡ is_json (map (header_bytes bytes.now) headers.now) }
@@ -35,7 +35,7 @@ pub(crate) fn is_json(bytes: &[u8], headers: &[HeaderSpan]) -> bool
     }
 }
 
-/// Returns the stream id, if there is one. Errors: it is repeated or invalid.
+/// Returns the stream id, if the head has one. Errors: the stream id is repeated or invalid.
 pub(crate) fn stream_named(
     bytes: &[u8],
     headers: &[HeaderSpan],
@@ -55,7 +55,7 @@ pub(crate) fn stream_named(
     }
 }
 
-/// Returns the stream id, if there is exactly one and it is valid.
+/// Returns the stream id, if the head has exactly one and it is valid.
 pub(crate) fn stream_required(bytes: &[u8], headers: &[HeaderSpan]) -> Option<StreamId>
     requires { All (IsHeaderWithin (length bytes.now)) headers.now }
     ensures { MatchOption result ((id : List ℕ)

@@ -1,4 +1,4 @@
-//! The id of an event stream, which the master chooses and calls name.
+//! The id of an event stream. The master chooses the id, and the calls of a client name it.
 
 ghost use Rattle.std.specs.Prelude.{◌≡◌, ◌≤◌, ◌↔◌, length, All, IsTrue, IsSome, IfSome};
 ghost use Rattle.uuid.specs.Text.{hyphenated_text, lower};

@@ -1,4 +1,4 @@
-//! Whether the first bytes of a request end inside its target.
+//! A check that the first bytes of a request end inside its target (`/api/v1/scheduler`).
 
 ghost use Rattle.std.specs.Prelude.{◌≡◌, ◌==◌, ◌<◌, ◌++◌, ◌∷◌, ℕ, List, length, position, IsTrue, ◌↔◌, IfSome, MatchOption};
 ghost use Rattle.httparse.specs.Ascii.{space};

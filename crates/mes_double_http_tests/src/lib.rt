@@ -1,5 +1,5 @@
 //! Tests of the crate `mes_double_http` through its public functions: worked examples, incomplete
-//! and failing heads, and request smuggling.
+//! and invalid heads, and request smuggling.
 #![tactic(auto)]
 
 #[cfg(test)]

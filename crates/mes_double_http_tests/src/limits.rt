@@ -1,4 +1,4 @@
-//! Heads at their limits and beyond.
+//! Heads whose length or number of fields is at its limit or above.
 
 use crate::support::{Reads, answered, bytes_of, failing};
 use mes_double_http::MAX_HEAD;
@@ -6,7 +6,7 @@ use std::alloc::{AllocError, AllocGlobal, Global};
 use std::process::Abort;
 use std::test::Fail;
 
-/// Returns the lines, padded with `a` to `size` bytes, and then the end.
+/// Returns the lines, padded with `a` to `size` bytes, followed by `end`.
 fn filled(alloc: Global, lines: &str, size: usize, end: &[u8]) -> Result<Vec<u8>, AllocError> {
     let mut bytes = bytes_of(alloc, lines, b"")?;
     bytes.resize(size, b'a')?;
@@ -14,8 +14,9 @@ fn filled(alloc: Global, lines: &str, size: usize, end: &[u8]) -> Result<Vec<u8>
     Ok(bytes)
 }
 
-/// Padded heads: the function, the lines, the size, the end, and the result. A target is checked
-/// for UTF-8 only at its end, so a head that is too long inside its target is H2.
+/// Padded heads: the function that reads, the lines, the size of the padded lines, the bytes after
+/// them, and the result. A target is checked for UTF-8 only at its end, so a head that is too long
+/// inside its target is H2.
 const SIZES: [(Reads, &str, usize, &[u8], &str); 5] = [
     (
         Reads::Answer,
@@ -90,8 +91,8 @@ fn a_head_has_at_most_64_fields(rt: HostRuntime) -> Result<(), Fail> {
     Ok(())
 }
 
-/// Expects that one field too many is refused at the end of its line: a reader that fails after the
-/// line is not called.
+/// Expects that field 65 is refused at the end of its line: the reader, which would fail after this
+/// line, is not called again.
 fn expect_field_65<R: Abort + AllocGlobal>(rt: &R, reads: Reads, line: &str) -> Result<(), Fail> {
     let bytes = fields(rt.alloc(), line, 65)?;
     let end = bytes.len().saturating_sub(2);

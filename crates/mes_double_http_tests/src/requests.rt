@@ -1,4 +1,4 @@
-//! Requests: their heads, smuggled shapes, and their bodies.
+//! Tests of requests: heads, request smuggling, and bodies.
 
 use crate::support::{
     CALL, CALL_LINES, Reads, answered, bytes_of, expect_breaks, expect_rows, gives, leaves, row_of,
@@ -8,8 +8,8 @@ use std::alloc::AllocGlobal;
 use std::process::Abort;
 use std::test::Fail;
 
-/// The first fault of a request's head, in the order target, method, media type, length, its bound,
-/// stream.
+/// Heads of requests, each with its first fault, in the order target, method, media type, length,
+/// maximum length, stream id.
 const FAULTS: &str =
     "POST /api/v1/scheduler HTTP/1.1|Content-Type: application/json|Content-Length: 47|| => ok
 POST /api/v1/scheduler HTTP/1.0|cOnTeNt-TyPe: APPLICATION/json|CONTENT-LENGTH: 47|| => ok
@@ -36,8 +36,8 @@ POST /api/v1/scheduler HTTP/1.1|Content-Type: application/json|Content-Length: 4
 POST /api/v1/scheduler HTTP/1.1|Content-Type: application/json|Content-Length: 1048576|| => H12 ShortBody
 POST /api/v1/scheduler HTTP/1.1|Content-Type: application/json|Content-Length: 46|| => ok";
 
-/// Shapes with which one request is smuggled in another. Two readers that parse them differently
-/// would split the stream of requests differently.
+/// Heads with which one request is smuggled in another. Two readers that parse such a head
+/// differently would split the stream of requests differently.
 const SHAPES: &str = "Content-Length: 47|Content-Length: 47 => H10 NoLength
 Content-Length: 47|content-length: 46 => H10 NoLength
 Content-Length: 47, 47 => H10 NoLength
@@ -68,8 +68,8 @@ Content-Length 47 => H3 BadHead
 : 47 => H3 BadHead
 Content-Length: 47|A\u{e9}: b => H3 BadHead";
 
-/// More such shapes, with bytes that a table cannot have. A bare LF may end a line (RFC 9112
-/// section 2.2); a bare CR and a NUL are refused.
+/// More heads for request smuggling, with bytes that a row of a table cannot contain. A bare LF may
+/// end a line (RFC 9112 section 2.2); a bare CR and a NUL are refused.
 const BYTES: [(&str, &str); 7] = [
     ("Content-Length: 47\nA: b", "ok"),
     ("Content-Length: 46\nContent-Length: 47", "H10 NoLength"),

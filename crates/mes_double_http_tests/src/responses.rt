@@ -1,4 +1,4 @@
-//! Heads of responses.
+//! Tests of the heads of responses.
 
 use crate::support::{
     ACCEPTED_LINES, OK_LINES, Reads, asked, bytes_of, expect_breaks, expect_rows, leaves,
@@ -10,7 +10,7 @@ use std::alloc::AllocGlobal;
 use std::process::Abort;
 use std::test::Fail;
 
-/// Heads of streams of events, and the result of `read_head`.
+/// Heads of responses to a SUBSCRIBE, and the result of `read_head`.
 const HEADS: &str =
     "HTTP/1.1 200 OK|Content-Type: application/json|Transfer-Encoding: chunked|Mesos-Stream-Id: s1|| => ok
 HTTP/1.0 200|content-type:application/json|TRANSFER-ENCODING:\tChunked \t|mEsOs-StReAm-Id:  s1  || => ok
@@ -41,7 +41,7 @@ HTTP/1.1 200 OK|A: b| c|| => H3 BadHead
 HTTP/1.1 200 OK| => H3 BadHead
  => H3 BadHead";
 
-/// Heads of responses to other calls, and the result of `read_answer`.
+/// Heads of responses to calls other than SUBSCRIBE, and the result of `read_answer`.
 const ANSWERS: &str = "HTTP/1.1 202 Accepted|Content-Length: 0|Connection: close|| => ok
 HTTP/1.1 202|| => ok
 HTTP/1.1 202 Accepted|Transfer-Encoding: chunked|| => ok
@@ -64,7 +64,8 @@ fn opens(source: &mut MemorySource<'_>, stream: &str) -> bool {
     }
 }
 
-/// The stream id is the field's, and the body after the head is not consumed.
+/// The stream id is the value of the field `Mesos-Stream-Id`, and the body after the head is not
+/// consumed.
 #[test]
 fn a_head_is_taken_alone(rt: HostRuntime) -> Result<(), Fail> {
     let bytes = bytes_of(rt.alloc(), OK_LINES, b"XY")?;
@@ -116,7 +117,7 @@ fn is_an_id(text: &str) -> bool {
     StreamId::new(text).is_some()
 }
 
-/// Texts, and whether each is a stream id; the last two have 128 and 129 bytes.
+/// Texts, and whether each is a valid stream id; the last two texts have 128 and 129 bytes.
 const IDS: [(&str, bool); 7] = [
     ("", false),
     ("a b", false),

@@ -1,5 +1,6 @@
-//! Heads as common software writes them, directly and through a proxy. Each was captured on a
-//! loopback socket, except that of Mesos, which is from the documentation of its scheduler API.
+//! Tests with heads that common software writes, directly and through a proxy. Each head was
+//! captured on a loopback socket, except that of Mesos, which is from the documentation of its
+//! scheduler API.
 
 use crate::support::{Reads, expect_rows};
 use std::test::Fail;
@@ -19,14 +20,14 @@ POST /api/v1/scheduler HTTP/1.1|Host: 127.0.0.1:5050|User-Agent: Go-http-client/
 POST /api/v1/scheduler HTTP/1.1|Host: 127.0.0.1:5050|User-Agent: curl/7.88.1|Accept: */*|Content-Type: application/x-www-form-urlencoded|Content-Length: 2|| => H6 NotJson
 POST /api/v1/scheduler HTTP/1.1|Host: 127.0.0.1:5050|Content-Type: application/json|Connection: keep-alive|Transfer-Encoding: chunked|| => H10 NoLength";
 
-/// Responses to a SUBSCRIBE, of Mesos and through nginx.
+/// Responses to a SUBSCRIBE: that of Mesos, and one forwarded by nginx.
 const STREAMS: &str =
     "HTTP/1.1 200 OK|Content-Type: application/json|Transfer-Encoding: chunked|Mesos-Stream-Id: 130ae4e3-6b13-4ef4-baa9-9f2e85c3e9af|| => ok
 HTTP/1.1 200 OK|Server: nginx/1.22.1|Date: Wed, 25 Nov 2026 19:45:26 GMT|Content-Type: application/json|Transfer-Encoding: chunked|Connection: keep-alive|Mesos-Stream-Id: 130ae4e3-6b13-4ef4-baa9-9f2e85c3e9af|| => ok
 HTTP/1.1 307 Temporary Redirect|Location: //10.0.0.2:5050|Content-Length: 0|| => H4 Status
 HTTP/1.1 502 Bad Gateway|Server: nginx/1.22.1|Date: Wed, 25 Nov 2026 19:45:26 GMT|Content-Type: text/html|Content-Length: 157|Connection: keep-alive|| => H4 Status";
 
-/// Responses to other calls.
+/// Responses to calls other than SUBSCRIBE.
 const ANSWERS: &str =
     "HTTP/1.1 202 Accepted|Date: Wed, 25 Nov 2026 19:45:24 GMT|Content-Length: 0|| => ok
 HTTP/1.1 202 Accepted|Server: nginx/1.22.1|Date: Wed, 25 Nov 2026 19:45:24 GMT|Content-Length: 0|Connection: keep-alive|| => ok

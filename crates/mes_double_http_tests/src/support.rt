@@ -1,10 +1,10 @@
-//! The format of the tables, and their interpreter.
+//! The format of the tables of tests, and the functions that run the rows.
 //!
 //! A table has a row on each line, `LINES => RESULT`. In LINES each `|` is the CR LF that ends a
 //! line.
 //!
-//! Each public function is called in a small function that returns plain data. So the loops over
-//! rows do not depend on its contract.
+//! Each public function under test is called in a small function that returns plain data. So the
+//! proofs of the loops over rows do not depend on the contract of the function under test.
 
 use mes_double_http::{HeadFault, Request, read_answer, read_head, read_request};
 use mes_frame::{MemorySource, Source};
@@ -27,12 +27,12 @@ pub(crate) const ACCEPTED_LINES: &str =
 pub(crate) const CALL_LINES: &str =
     "POST /api/v1/scheduler HTTP/1.1|Host: 127.0.0.1:5050|Content-Type: application/json|Accept: application/json|Mesos-Stream-Id: s1|Connection: close|Content-Length: 47||";
 
-/// Splits a row into lines and result.
+/// Splits a row of a table into LINES and RESULT.
 pub(crate) fn row_of(line: &str) -> Result<(&str, &str), Fail> {
     Ok(line.split_once(" => ").ok_or("a row has two sides")?)
 }
 
-/// Returns the bytes of the lines, followed by `following`.
+/// Returns the bytes that LINES represents, followed by `following`.
 pub(crate) fn bytes_of(
     alloc: Global,
     lines: &str,
@@ -50,7 +50,7 @@ pub(crate) fn bytes_of(
     Ok(bytes)
 }
 
-/// Returns the number and the name of the fault, or `ok`.
+/// Returns the number and the name of the fault, or `ok` for a value.
 fn answer_of<T>(answer: &Result<T, HeadFault>) -> &'static str {
     match answer {
         Ok(_) => "ok",
@@ -58,7 +58,7 @@ fn answer_of<T>(answer: &Result<T, HeadFault>) -> &'static str {
     }
 }
 
-/// The function that reads.
+/// The function under test: `read_head`, `read_answer` or `read_request`.
 #[derive(Clone, Copy)]
 pub(crate) enum Reads {
     Head,
@@ -66,7 +66,7 @@ pub(crate) enum Reads {
     Request,
 }
 
-/// Returns the result of the function for a source.
+/// Calls the function under test with this source, and returns its fault or `ok`.
 pub(crate) fn asked(alloc: Global, reads: Reads, source: &mut MemorySource<'_>) -> &'static str {
     match reads {
         Reads::Head => answer_of(&read_head(source)),
@@ -75,12 +75,12 @@ pub(crate) fn asked(alloc: Global, reads: Reads, source: &mut MemorySource<'_>) 
     }
 }
 
-/// Returns the result of the function for these bytes.
+/// Calls the function under test with these bytes, and returns its fault or `ok`.
 pub(crate) fn answered(alloc: Global, reads: Reads, bytes: &[u8]) -> &'static str {
     asked(alloc, reads, &mut MemorySource::new(bytes, 64))
 }
 
-/// Returns the result of the function if the reader fails after `good` of the bytes.
+/// Like [`answered`], but the reader fails after the first `good` bytes.
 pub(crate) fn failing(alloc: Global, reads: Reads, bytes: &[u8], good: usize) -> &'static str {
     asked(
         alloc,
@@ -89,7 +89,7 @@ pub(crate) fn failing(alloc: Global, reads: Reads, bytes: &[u8], good: usize) ->
     )
 }
 
-/// Expects the result of each row, with `following` after its lines.
+/// Expects the result of each row, if the bytes `following` come after the lines of the row.
 pub(crate) fn expect_rows<R: Abort + AllocGlobal>(
     rt: &R,
     reads: Reads,
@@ -108,8 +108,8 @@ pub(crate) fn expect_rows<R: Abort + AllocGlobal>(
     Ok(())
 }
 
-/// Expects H1 of a reader that fails in the bytes. Of one that ends, expects H3 in the head, which
-/// has `head` bytes, and H12 after it.
+/// Expects H1 if the reader fails before the last of the bytes. Expects H3 if the reader ends in
+/// the head, which has `head` bytes, and H12 if the reader ends in the body.
 pub(crate) fn expect_breaks<R: Abort + AllocGlobal>(
     rt: &R,
     reads: Reads,
@@ -135,7 +135,7 @@ pub(crate) fn expect_breaks<R: Abort + AllocGlobal>(
     }
 }
 
-/// Returns whether the next read of the source, of at most 8 bytes, returns these.
+/// Returns whether the next read of the source, of at most 8 bytes, returns `bytes`.
 pub(crate) fn leaves(source: &mut MemorySource<'_>, bytes: &[u8]) -> Result<bool, Fail> {
     let mut buffer = [0; 8];
     let count = source.fetch(&mut buffer)?;
@@ -150,7 +150,8 @@ fn stream_of(request: &Request) -> &str {
     }
 }
 
-/// Returns whether the source has a request with this body and this stream.
+/// Returns whether a request with this body and this stream id (`-` for none) is read from the
+/// source.
 pub(crate) fn gives(
     alloc: Global,
     source: &mut MemorySource<'_>,

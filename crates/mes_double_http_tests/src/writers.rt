@@ -1,4 +1,5 @@
-//! Heads and calls that are written, completely and to a writer that stops.
+//! Tests of heads and calls that are written to a writer that accepts all bytes, and to one that
+//! stops.
 
 use crate::support::{ACCEPTED_LINES, CALL, CALL_LINES, OK_LINES, bytes_of, gives};
 use http::StatusCode;
@@ -9,19 +10,20 @@ use std::alloc::{AllocError, AllocGlobal, Global};
 use std::process::Abort;
 use std::test::Fail;
 
-/// The text of these bytes, so that a failure prints it.
+/// Returns the text of the bytes, so that a failed test prints a text.
 fn as_text(bytes: &[u8]) -> Option<&str> {
     str::from_utf8(bytes).ok()
 }
 
-/// What is written.
+/// The head or the call that a test writes.
 #[derive(Clone, Copy)]
 enum Written<'a> {
-    /// The head of a stream with this id.
+    /// The head of the response to a SUBSCRIBE, with this stream id.
     Stream(&'a str),
-    /// The head of a response with this status.
+    /// The head of a response with this status and no body.
     Status(u16),
-    /// The call with this text, with this stream id or none, to the host of the examples.
+    /// A call as a request to the host of the examples: the stream id, if any, and the text of the
+    /// call.
     Call(Option<&'a str>, &'a [u8]),
 }
 
@@ -60,8 +62,8 @@ fn write(alloc: Global, sink: &mut MemorySink, what: Written<'_>) -> Result<(), 
     }
 }
 
-/// Expects these bytes from a writer that accepts all, and the fault of one that stops after any
-/// number of them.
+/// Expects that a writer that accepts all bytes gets `expected`, and that a writer that stops after
+/// any number of these bytes gets those bytes and causes a fault.
 fn expect_written<R: Abort + AllocGlobal>(rt: &R, what: Written<'_>, expected: &[u8]) {
     let mut whole = MemorySink::new(rt.alloc(), 7);
     assert_eq!(rt; write(rt.alloc(), &mut whole, what), Ok(()));
@@ -82,8 +84,8 @@ fn expect_written<R: Abort + AllocGlobal>(rt: &R, what: Written<'_>, expected: &
     );
 }
 
-/// Expects the bytes and the fault of a writer that stops in this way after any number of the
-/// bytes.
+/// Expects that a writer that stops as `stop` states, after any number of the bytes of `expected`,
+/// gets these bytes, and that the fault is `why`.
 fn expect_stops<R: Abort + AllocGlobal>(
     rt: &R,
     what: Written<'_>,
@@ -107,7 +109,7 @@ fn the_head_of_a_stream_is_written(rt: HostRuntime) -> Result<(), Fail> {
     Ok(())
 }
 
-/// Status codes, and the lines of the response with each.
+/// Status codes, each with the lines of the head of its response.
 const STATUSES: [(u16, &str); 6] = [
     (202, ACCEPTED_LINES),
     (
@@ -138,7 +140,7 @@ fn the_head_of_a_status_is_written(rt: HostRuntime) -> Result<(), Fail> {
     Ok(())
 }
 
-/// The lines of a request without a stream.
+/// The lines of a request without a stream id.
 const NO_STREAM: &str =
     "POST /api/v1/scheduler HTTP/1.1|Host: 127.0.0.1:5050|Content-Type: application/json|Accept: application/json|Connection: close|Content-Length: 47||";
 

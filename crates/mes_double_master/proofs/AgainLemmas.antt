@@ -14,7 +14,7 @@ use Rattle.mes_session_state.specs.Held.{name_of, offer_in, names, without_offer
 use Rattle.mes_session_state.specs.Calls.{framework_of}
 use Rattle.mes_double_master.specs.Masters.{MasterState, MasterAnswer, plain, subscribed, all_there, launchable, accepted, declined, has_update, acknowledged, key_in, agrees, carried_out, is_named, in_stream, is_subscribe, answered, handled}
 
--- ---- a text equals itself
+-- ---- `bytes_eq` and `same_key` are reflexive
 
 pub same_text : (a : List ℕ) → bytes_eq a a ≡ true
 same_text a = (bytes_eq-Decides a a).1 refl
@@ -22,9 +22,9 @@ same_text a = (bytes_eq-Decides a a).1 refl
 pub own_key : (k : OwedKey) → same_key k k ≡ true
 own_key k = rw (same_text k.agent.value, same_text k.task.value, same_text k.uuid) refl
 
--- ---- offers that were taken
+-- ---- offers that were removed are not outstanding
 
--- taking offers twice is taking them once
+-- removing the same offers twice has the effect of removing them once
 pub without_twice : (ids : List Id) (os : List Offer) → without_offers ids (without_offers ids os) ≡ without_offers ids os
 without_twice ids [] = refl
 without_twice ids (o ∷ os) = by (names ids o) refl (without_twice ids os)
@@ -47,7 +47,7 @@ pub none_there : (ids : List Id) (os : List Offer) → all_there (without_offers
 none_there [] os = refl
 none_there (d ∷ ds) os = rw (gone d ds os) refl
 
--- ---- each call
+-- ---- an ACCEPT, and other calls, twice: the state after the second is that after the first
 
 pub accepted_twice : (m : MasterState) (ids : List Id) (tasks : List TaskInfo) → (accepted (accepted m ids tasks).master ids tasks).master ≡ (accepted m ids tasks).master
 accepted_twice m ids tasks =
@@ -74,7 +74,7 @@ acknowledged_twice m k = by (has_update m.owing k) refl
     by true e = rw e (λ i. record m { acked = key_twice m.acked k i })
     by false e = rw e refl
 
--- ---- whether a call is carried out
+-- ---- a call with status 202 was carried out
 
 -- the call is not a SUBSCRIBE, is of the framework, and names the current stream
 pub record IsOpen (m : MasterState) (call : Call) (given : Option (List ℕ)) : Type 0 where
@@ -109,7 +109,7 @@ opens m call given e = by (m.down || not (agrees m.framework (framework_of call)
     by false f false g None h e = absurd (omega arith)
     by false f false g (Some current) h e = record { fine = f; other = g; current = current; stream = h; named = named current (is_named current given) refl e }
 
--- ---- the theorem
+-- ---- the theorem: a call with status 202 changes nothing if it is repeated
 
 again_out : (m : MasterState) (call : Call) (given : Option (List ℕ)) → IsOpen m call given → (handled (carried_out m call).master call given).master ≡ (carried_out m call).master
 again_out m (of.Subscribe framework body) given o = absurd (cc o.other)

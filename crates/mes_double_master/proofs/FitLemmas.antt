@@ -1,4 +1,4 @@
--- If tasks fit, the launched ones among them fit too.
+-- If the tasks of a call fit the offers taken, the launched tasks among them fit too.
 use Rattle.std.proofs.Common.{◌≡◌, ℕ, zero, suc, ◌+◌, ◌≤◌, Bool, true, false, ◌||◌, ◌&&◌, not, if◌then◌else◌, Some, None, Option, List, [], ◌∷◌, ◌++◌, slice_get, refl, sym, ap, subst, ◌∙◌, append_assoc, arith}
 use Rattle.std.specs.List.{list_any}
 use Rattle.std.specs.List.Sorted.{IsPermutation}
@@ -76,7 +76,7 @@ amount-less k (x ∷ front) t ts =
     let c : amount k (asked (front ++ ts)) ≤ amount k (asked (front ++ t ∷ ts)) = amount-less k front t ts in
     omega arith
 
--- without one of them the tasks fit too
+-- if tasks fit the offers, they also fit without one of the tasks
 pub fits-less : (os : List Offer) (front : List TaskInfo) (t : TaskInfo) (ts : List TaskInfo) → Fits os (front ++ t ∷ ts) → Fits os (front ++ ts)
 fits-less os front t ts f = record {
   amounts = λ k. (let less : amount k (asked (front ++ ts)) ≤ amount k (asked (front ++ t ∷ ts)) = amount-less k front t ts in let all : amount k (asked (front ++ t ∷ ts)) ≤ amount k (offered os) = f.amounts k in omega arith);
@@ -96,7 +96,7 @@ fits-new os front known (t ∷ ts) f = by (is_among t.task_id known) refl (λ so
 pub fits-nothing : (os : List Offer) → Fits os []
 fits-nothing os = record { amounts = λ k. omega arith; pieces = λ i t e k p has. absurd (cc) }
 
--- ---- responses to calls
+-- ---- for each call, the launched tasks fit the offers taken
 
 abbrev pub FitsRan : Call → MasterAnswer → Type 0
 FitsRan call a = (os : List Offer) → IsPermutation os a.took → Fits os (tasks_of call) → Fits a.took a.ran

@@ -1,4 +1,5 @@
--- Over whole runs no offer is taken twice and no task launched twice: each identifier is counted.
+-- In any sequence of calls and events no offer is taken twice and no task is launched twice. The
+-- proof counts how often each identifier occurs.
 use Rattle.std.proofs.Common.{◌≡◌, ℕ, ◌+◌, ◌≤◌, Bool, true, false, ◌||◌, not, if◌then◌else◌, fold, slice_get, List, [], ◌∷◌, ◌++◌, Option, Some, None, is_some, Ok, Err, refl, sym, ap, subst, ◌∙◌, append_assoc, arith}
 use Rattle.std.specs.Str.{bytes_eq}
 use Rattle.std.proofs.lemmas.Slice.Eq.{bytes_eq-Decides}
@@ -74,7 +75,7 @@ distinct (d ∷ ds) once = or_from _ _ (by (is_among d ds) refl) (distinct ds (�
         let two_there : 1 + times d.value ds ≤ 1 = rw same at two in
         absurd (omega arith)
 
--- ---- new tasks and offers
+-- ---- identifiers of new tasks and new offers occur once
 
 pub new-once : (ks : List Id) (ts : List TaskInfo) → Once ks → Once (ks ++ ids_of (new_tasks ks ts))
 new-once ks [] once = subst Once (sym (append-nil ks)) once
@@ -91,7 +92,7 @@ offered-once ks (d ∷ ds) none once =
     let first : (is_among d ks ≡ false) × (is_among d ds ≡ false) = or_parts _ _ both.0 in
     subst Once (append_assoc ks (d ∷ []) ds) (offered-once (ks ++ d ∷ []) ds (comes_more ks d ds both.1 first.1) (λ x. one-more x ks d first.0 (once x)))
 
--- ---- offers that are added and removed
+-- ---- how often an identifier occurs after offers are removed or added
 
 split : (x : List ℕ) (ids : List Id) (os : List Offer) → times x (offer_ids (named ids os)) + times x (offer_ids (without_offers ids os)) ≡ times x (offer_ids os)
 split x ids [] = refl
@@ -123,7 +124,7 @@ with-times : (x : List ℕ) (os news : List Offer) → times x (offer_ids (with_
 with-times x os [] = omega arith
 with-times x os (o ∷ news) = omega (arith, put-times x os o, with-times x (put bytes_eq name_of os o) news)
 
--- ---- what every response to a call satisfies
+-- ---- `Fine`: what holds of every response to a call
 
 pub record Fine (m : MasterState) (a : MasterAnswer) : Type 0 where
   pub offered : a.master.offered ≡ m.offered
@@ -177,10 +178,10 @@ fine m call given =
     if-fine m (m.down || not (agrees m.framework (framework_of call))) _ _ (fine-plain m 403)
     (if-fine m (is_subscribe call) _ _ (fine-subscribed m m.ids) (fine-in m call m.stream given))
 
--- ---- what holds after every run
+-- ---- `Sound`: what holds after any sequence of calls and events
 
 pub record Sound (past : Past) : Type 0 where
-  -- what was taken or is outstanding was offered, and was offered once
+  -- each offer that was taken or is outstanding was made, and no offer is counted twice
   pub took : (x : List ℕ) → times x (offer_ids past.took) + times x (offer_ids past.master.outstanding) ≤ times x past.master.offered
   pub offered : Once past.master.offered
   pub ran : past.master.launched ≡ ids_of past.ran

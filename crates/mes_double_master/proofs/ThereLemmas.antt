@@ -1,4 +1,4 @@
--- Whether the named offers are outstanding.
+-- `all_there`, if at least one offer is named: each named offer is outstanding.
 use Rattle.std.proofs.Common.{◌≡◌, Bool, true, false, List, [], ◌∷◌, length, ◌==◌, refl}
 use Rattle.std.specs.List.{list_all}
 use Rattle.mes_model.specs.Id.{Id}

@@ -23,18 +23,18 @@ pub use Rattle.mes_double_master_state.specs.Updates.{has_update, key_in}
 -- the state of a master
 pub record MasterState : Type 0 where
   pub framework : Id
-  -- the UUIDs of future streams
+  -- the UUIDs for the ids of future streams, in order
   pub ids : List (List ℕ)
   -- the id of the current stream
   pub stream : Option (List ℕ)
-  -- whether a TEARDOWN was carried out
+  -- true if a TEARDOWN was carried out
   pub down : Bool
   -- the identifiers of all offers ever made
   pub offered : List Id
   pub outstanding : List Offer
-  -- the last status of each task, in the order of their first statuses
+  -- the last status of each task; the tasks are in the order of their first statuses
   pub latest : List (Id × TaskStatus)
-  -- the updates that require an acknowledgement, by key
+  -- the updates that require an acknowledgement, acknowledged or not, by key
   pub owing : List (OwedKey × TaskStatus)
   pub launched : List Id
   pub acked : List OwedKey
@@ -47,13 +47,13 @@ pub record MasterAnswer : Type 0 where
   pub ran : List TaskInfo
   pub master : MasterState
 
--- a response with only a status, and the new state
+-- a response with only a status, and the master's new state
 abbrev pub plain : ℕ → MasterState → MasterAnswer
 plain status m = record { status = status; events = []; took = []; ran = []; master = m }
 
 -- ---- SUBSCRIBE
 
--- the next id becomes that of the stream, and no offer is outstanding
+-- the response to a SUBSCRIBE: the next id becomes the stream's, and no offer is outstanding
 abbrev pub subscribed : MasterState → List (List ℕ) → MasterAnswer
 subscribed m [] = plain 403 m
 subscribed m (uuid ∷ uuids) = record {
@@ -69,12 +69,12 @@ subscribed m (uuid ∷ uuids) = record {
 abbrev pub is_there : List Offer → Id → Bool
 is_there offers d = is_some (offer_in offers d.value)
 
--- whether at least one offer is named, and all of them are outstanding
+-- true if at least one offer is named, and all named offers are outstanding
 abbrev pub all_there : List Offer → List Id → Bool
 all_there offers [] = false
 all_there offers (d ∷ ds) = list_all (is_there offers) (d ∷ ds)
 
--- the named offers
+-- the offers in the list whose identifiers are named
 abbrev pub named : List Id → List Offer → List Offer
 named ids offers = filter (names ids) offers
 
@@ -116,14 +116,14 @@ reconciled m tasks = record { status = 202; events = map reconciled_event (asked
 abbrev pub torn_down : MasterState → MasterState
 torn_down m = record m { stream = None; down = true; outstanding = [] }
 
--- ---- each call
+-- ---- the response to each call
 
--- whether the framework is absent or this one
+-- true if a call names this framework or none
 abbrev pub agrees : Id → Option Id → Bool
 agrees framework None = true
 agrees framework (Some other) = same_id framework other
 
--- the response to a call of the framework on the current stream; all other calls change nothing
+-- the response to a call that is of the framework and names the current stream
 abbrev pub carried_out : MasterState → Call → MasterAnswer
 carried_out m (of.Accept framework body) = accepted m body.offer_ids (launched launched_by body.operations)
 carried_out m (of.Decline framework body) = declined m body.offer_ids
@@ -132,12 +132,12 @@ carried_out m (of.Reconcile framework body) = reconciled m body.tasks
 carried_out m (of.Teardown framework) = plain 202 (torn_down m)
 carried_out m _ = plain 202 m
 
--- whether the call names the current stream
+-- true if a call names the current stream
 abbrev pub is_named : List ℕ → Option (List ℕ) → Bool
 is_named current None = false
 is_named current (Some given) = bytes_eq current given
 
--- the status is 403 without a stream, and 400 if another stream or none is named
+-- the status is 403 without a current stream, and 400 if the call names another stream or none
 abbrev pub in_stream : MasterState → Call → Option (List ℕ) → Option (List ℕ) → MasterAnswer
 in_stream m call None given = plain 403 m
 in_stream m call (Some current) given = if is_named current given then carried_out m call else plain 400 m
@@ -146,15 +146,15 @@ abbrev pub is_subscribe : Call → Bool
 is_subscribe (of.Subscribe framework body) = true
 is_subscribe _ = false
 
--- a SUBSCRIBE needs no stream, and may name any
+-- the response to a call of the framework; a SUBSCRIBE needs no stream, and may name any
 abbrev pub answered : MasterState → Call → Option (List ℕ) → MasterAnswer
 answered m call given = if is_subscribe call then subscribed m m.ids else in_stream m call m.stream given
 
--- the response to a call that names this stream, or none
+-- the response to a call that names the stream `given`, or none
 abbrev pub handled : MasterState → Call → Option (List ℕ) → MasterAnswer
 handled m call given = if m.down || not (agrees m.framework (framework_of call)) then plain 403 m else answered m call given
 
--- the code returns this response, and has this state
+-- the code's status, events and new state are those of the response `answer`
 pub record IsAnswer (answer : MasterAnswer) (status : ℕ) (events : List Event) (master : MasterState) : Type 0 where
   pub status_is : status ≡ answer.status
   pub events_are : events ≡ answer.events

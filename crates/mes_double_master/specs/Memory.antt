@@ -4,13 +4,13 @@ use Rattle.mes_msg.specs.Call.{Call}
 use Rattle.mes_msg.specs.Call.TheVariants as of
 use Rattle.mes_double_master.specs.Masters.{MasterState, all_there, handled}
 
--- whether a call that is carried out makes events or is recorded
+-- true if a call, when it is carried out, makes events or is recorded
 abbrev pub notes : MasterState → Call → Bool
 notes m (of.Accept framework body) = all_there m.outstanding body.offer_ids
 notes m (of.Acknowledge framework body) = true
 notes m (of.Reconcile framework body) = true
 notes m _ = false
 
--- the status is 200, or it is 202 and the call makes events or is recorded
+-- the response has status 200, or 202 to a call that makes events or is recorded
 abbrev pub MayWantMemory : MasterState → Call → Option (List ℕ) → Type 0
 MayWantMemory m call given = ((handled m call given).status ≡ 200) ⊎ (((handled m call given).status ≡ 202) × (notes m call ≡ true))

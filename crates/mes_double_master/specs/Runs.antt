@@ -30,7 +30,7 @@ pub data Deed : Type 0 where
   updates : (status : TaskStatus) → Deed
   resends : (index : ℕ) → Deed
 
--- a master, and what its calls took and launched so far
+-- a master, the offers that its calls took, and the tasks that its calls launched so far
 pub record Past : Type 0 where
   pub master : MasterState
   pub took : List Offer
@@ -39,7 +39,7 @@ pub record Past : Type 0 where
 abbrev pub after_call : Past → MasterAnswer → Past
 after_call past answer = record { master = answer.master; took = past.took ++ answer.took; ran = past.ran ++ answer.ran }
 
--- a refusal changes nothing
+-- the master after an event is sent; a refusal changes nothing
 abbrev pub after_sending : Past → Sends → Past
 after_sending past (Ok sent) = record past { master = sent.1 }
 after_sending past (Err why) = past
@@ -51,11 +51,11 @@ after past (rescinds name) = after_sending past (rescind_sent past.master name)
 after past (updates status) = after_sending past (update_sent past.master status)
 after past (resends index) = after_sending past (resend_sent past.master index)
 
--- a new master after these
+-- a new master after these calls and events (`deeds`)
 abbrev pub past_of : Id → List (List ℕ) → List Deed → Past
 past_of framework ids deeds = fold after (record { master = new_master framework ids; took = []; ran = [] }) deeds
 
--- the master's launched tasks are those of its calls, and no task was launched twice
+-- the master's launched tasks are those that its calls launched, and no task was launched twice
 pub record LaunchedOnce (past : Past) : Type 0 where
   pub launched : past.master.launched ≡ ids_of past.ran
   pub once : is_duplicated past.master.launched ≡ false

@@ -19,7 +19,7 @@ use Rattle.mes_double_master.specs.Masters.{MasterState, same_id, is_there, has_
 abbrev pub Sends : Type 0
 Sends = Result (Event × MasterState) MasterRefusal
 
--- each event needs a stream
+-- an event is sent only if there is a current stream
 abbrev pub on_stream : MasterState → Sends → Sends
 on_stream m sends = if is_some m.stream then sends else Err NoStream
 
@@ -37,7 +37,7 @@ rescind_sent m name = on_stream m (
     else Err NoSuchOffer
     )
 
--- the last status of its task is this one
+-- the state of a master after `status`, which becomes the last status of its task
 abbrev pub reported : MasterState → TaskStatus → MasterState
 reported m status = record m { latest = insert_entry same_id m.latest status.task_id status }
 

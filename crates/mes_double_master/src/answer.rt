@@ -1,11 +1,11 @@
-//! The response of a master to a call.
+//! The response of a test master to a call.
 ghost use Rattle.std.specs.Prelude.{◌≡◌, []};
 
 use http::StatusCode;
 use mes_msg::Event;
 use std::alloc::Global;
 
-/// The response of a master to a call.
+/// The response of a test master to a call.
 #[derive(Drop)]
 pub struct Answer {
     /// 200 for a SUBSCRIBE, 202 for another call that was carried out, 400 or 403.

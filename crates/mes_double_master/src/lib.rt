@@ -6,10 +6,11 @@
 //!     let answer = master.handle(&call, Some(&stream))?;
 //!     let event = master.offer(&offers)?;
 //!
-//! The contracts state its response to each call and its state after it. `master_laws` proves that
-//! no task is launched twice and no offer is taken twice. The state's parts are in the crate
-//! `mes_double_master_state`, the heads in `mes_double_http`. Programs use `mes_double`, which
-//! re-exports them. The tests are in `mes_double_master_tests`.
+//! The contracts state the master's response to each call, and the master's state after the call.
+//! `master_laws` proves that no task is launched twice and no offer is taken twice. The parts of
+//! the master's state are in the crate `mes_double_master_state`, the HTTP heads in
+//! `mes_double_http`. Programs use `mes_double`, which re-exports these crates. The tests are in
+//! `mes_double_master_tests`.
 
 mod answer;
 mod master;

@@ -18,10 +18,10 @@ use uuid::Uuid;
 pub struct Master {
     alloc: Global,
     framework: Id,
-    /// The UUIDs of future streams.
+    /// The UUIDs for the ids of future streams, in order.
     ids: Vec<Uuid>,
     stream: Option<StreamId>,
-    /// Whether a TEARDOWN was carried out.
+    /// True if a TEARDOWN was carried out.
     down: bool,
     /// The identifiers of all offers ever made.
     offered: IndexSet<Id>,

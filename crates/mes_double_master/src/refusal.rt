@@ -1,13 +1,13 @@
-//! The reasons for which a master sends nothing.
+//! The reasons for which a master does not send an event.
 
 use mes_json::NoMemory;
 
-/// The reason for which a master sends nothing. M1 to M5 are checked in this order.
+/// The reason for which a master does not send an event. M1 to M5 are checked in this order.
 #[derive(Clone, Copy, Debug, PartialEq, Eq)]
 pub enum MasterRefusal {
     /// M1: there is no current stream.
     NoStream,
-    /// M2: an offer's identifier was used before, or occurs twice.
+    /// M2: an offer's identifier is that of an earlier offer, or of two of the offers.
     OfferTwice,
     /// M3: no outstanding offer has the identifier.
     NoSuchOffer,

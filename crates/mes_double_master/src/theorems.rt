@@ -12,7 +12,7 @@ ghost use Rattle.mes_double_master.specs.Runs.{Deed, past_of, LaunchedOnce, Take
 /// Proves what holds after any sequence of calls and events of a new master:
 /// - no task is launched twice, and no offer is taken twice;
 /// - a call with status 202 changes nothing if it is repeated at once;
-/// - if the tasks of a call fit the offers that it takes, the launched tasks do too.
+/// - if the tasks of a call fit the offers that the call takes, the launched tasks fit them too.
 pub fn master_laws()
     // No task is launched twice.
     ensures launched { (framework : Id) (ids : List (List ℕ)) (deeds : List Deed)
@@ -20,12 +20,13 @@ pub fn master_laws()
     // No offer is taken twice.
     ensures taken { (framework : Id) (ids : List (List ℕ)) (deeds : List Deed)
         → TakenOnce (past_of framework ids deeds) }
-    // A repeated call changes nothing.
+    // A call with status 202 changes nothing if it is repeated at once.
     ensures again { (m : MasterState) (call : Call) (given : option (List ℕ))
         → (handled m call given).status ≡ 202
         → (handled (handled m call given).master call given).master
         ≡ (handled m call given).master }
-    // The launched tasks fit the offers taken, in any order.
+    // If the tasks of a call fit the offers that the call takes, in any order, the launched tasks
+    // do too.
     ensures fits { (m : MasterState) (call : Call) (given : option (List ℕ)) (offers : List Offer)
         → IsPermutation offers (handled m call given).took
         → Fits offers (tasks_of call) → Fits (handled m call given).took

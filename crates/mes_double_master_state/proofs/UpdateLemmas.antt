@@ -1,4 +1,4 @@
--- The updates that a master has sent, one by one.
+-- Lemmas about the loops over the updates that a master has sent.
 use Rattle.std.proofs.Common.{◌≡◌, ℕ, zero, suc, ◌+◌, ◌-◌, ◌<◌, Bool, true, false, map, filter_map, length, take, drop, get_or, slice_get, List, [], ◌∷◌, ◌++◌, Option, Some, None, is_some, option_map, refl, sym, ap, ◌∙◌, add-one, arith}
 use Rattle.std.specs.Map.{values_of, lookup}
 use Rattle.std.proofs.lemmas.List.{take_more}

@@ -8,7 +8,7 @@ use Rattle.mes_msg.specs.Event.{Event}
 use Rattle.mes_msg.specs.Event.TheVariants as event
 use Rattle.mes_double_master_state.specs.Ids.{same_id}
 
--- 15 seconds, in microseconds
+-- the heartbeat interval that the master announces: 15 seconds, in microseconds
 abbrev pub interval : ℕ
 interval = 15000000
 
@@ -18,15 +18,15 @@ subscribed_event framework = event.Subscribed (record { framework_id = framework
 abbrev pub update_event : TaskStatus → Event
 update_event status = event.Update (record { status = status })
 
--- a status sent for a RECONCILE requires no acknowledgement
+-- the UPDATE that is sent for a RECONCILE: without a UUID, so it requires no acknowledgement
 abbrev pub reconciled_event : TaskStatus → Event
 reconciled_event status = update_event (record status { reason = Some (codes "REASON_RECONCILIATION"); uuid = None })
 
--- the last status of a task
+-- the last status of a task, if it has a status
 abbrev pub last_of : List (Id × TaskStatus) → TaskRef → Option TaskStatus
 last_of latest task = lookup (same_id task.task_id) latest
 
--- the last statuses of the named tasks, in order, if present; of all tasks if none is named
+-- the last statuses of the tasks that a RECONCILE names, in order; of all tasks if it names none
 abbrev pub asked_for : List (Id × TaskStatus) → List TaskRef → List TaskStatus
 asked_for latest [] = values_of latest
 asked_for latest (task ∷ tasks) = filter_map (last_of latest) (task ∷ tasks)

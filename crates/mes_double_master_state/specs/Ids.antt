@@ -1,4 +1,4 @@
--- The identifiers of offers and tasks.
+-- The identifiers of offers made and of tasks launched.
 use Rattle.std.specs.Prelude.{Bool, false, ◌||◌, if◌then◌else◌, List, [], ◌∷◌, ◌++◌, map}
 use Rattle.std.specs.Str.{bytes_eq}
 use Rattle.mes_model.specs.Id.{Id}
@@ -12,12 +12,12 @@ same_id a b = bytes_eq a.value b.value
 abbrev pub offer_ids : List Offer → List Id
 offer_ids offers = map (λ (o : Offer). o.id) offers
 
--- whether one of the identifiers was offered before, or occurs again
+-- true if an identifier in the second list is also in `offered`, or occurs twice in the second list
 abbrev pub is_duplicate : List Id → List Id → Bool
 is_duplicate offered [] = false
 is_duplicate offered (d ∷ ds) = (is_among d offered || is_among d ds) || is_duplicate offered ds
 
--- the tasks whose identifiers are new; the first of two with one identifier
+-- the tasks whose identifiers are not in `known`; of two tasks with one identifier, the first
 abbrev pub new_tasks : List Id → List TaskInfo → List TaskInfo
 new_tasks known [] = []
 new_tasks known (t ∷ ts) = if is_among t.task_id known then new_tasks known ts else t ∷ new_tasks (known ++ t.task_id ∷ []) ts

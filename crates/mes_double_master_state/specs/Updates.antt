@@ -6,13 +6,13 @@ use Rattle.mes_model.specs.TaskStatus.{TaskStatus}
 use Rattle.mes_msg.specs.Acknowledge.{Acknowledge}
 use Rattle.mes_session_state.specs.Held.{same_key, is_owed}
 
--- whether an update has the key, acknowledged or not
+-- true if an update with the key was sent, acknowledged or not
 abbrev pub has_update : List (OwedKey × TaskStatus) → OwedKey → Bool
 has_update owing key = is_some (lookup (same_key key) owing)
 
 abbrev pub key_in : Acknowledge → OwedKey
 key_in body = record { agent = body.agent_id; task = body.task_id; uuid = body.uuid }
 
--- the updates that were not acknowledged
+-- the updates whose keys are not in `acked`, the list of acknowledged keys
 abbrev pub waiting : List (OwedKey × TaskStatus) → List OwedKey → List (OwedKey × TaskStatus)
 waiting owing acked = filter (λ e. not (is_owed e.0 acked)) owing

@@ -1,4 +1,4 @@
-//! The events that a master sends.
+//! Functions that make the events that a master sends.
 ghost use Rattle.std.specs.Prelude.{◌≡◌, ◌++◌, [], ◌∷◌, map, filter_map, option_copied, IfOk, OnOk};
 ghost use Rattle.std.specs.Map.{values_of, lookup};
 ghost use Rattle.mes_model.specs.TaskRef.{TaskRef as Named};
@@ -16,7 +16,7 @@ use std::alloc::Global;
 /// The heartbeat interval that the master announces, in microseconds: 15 seconds.
 const INTERVAL: u64 = 15_000_000;
 
-/// Returns the SUBSCRIBED of a framework.
+/// Returns the event SUBSCRIBED for a framework.
 pub fn subscribed(alloc: Global, framework: &Id) -> Result<Event, NoMemory>
     ensures { IfOk result (λ event. event ≡ subscribed_event framework.now) }
 {
@@ -26,7 +26,7 @@ pub fn subscribed(alloc: Global, framework: &Id) -> Result<Event, NoMemory>
     }))
 }
 
-/// Returns the OFFERS of these offers.
+/// Returns the event OFFERS with these offers.
 pub fn offers(alloc: Global, offers: &[Offer]) -> Result<Event, NoMemory>
     ensures { IfOk result (λ event. event ≡ Event.Offers offers.now) }
 {
@@ -37,7 +37,7 @@ pub fn offers(alloc: Global, offers: &[Offer]) -> Result<Event, NoMemory>
     Ok(Event::Offers(List::new(copies)))
 }
 
-/// Returns the UPDATE of a status.
+/// Returns the event UPDATE with this status.
 pub fn update(alloc: Global, status: &TaskStatus) -> Result<Event, NoMemory>
     ensures { IfOk result (λ event. event ≡ update_event status.now) }
 {
@@ -45,7 +45,7 @@ pub fn update(alloc: Global, status: &TaskStatus) -> Result<Event, NoMemory>
     Ok(Event::Update(Update { status }))
 }
 
-/// Returns the UPDATE of a status as a response to a RECONCILE.
+/// Returns the UPDATE of a status that a master sends for a RECONCILE: without a UUID.
 fn reconciled(alloc: Global, status: &TaskStatus) -> Result<Event, NoMemory>
     ensures { IfOk result (λ event. event ≡ reconciled_event status.now) }
 {
@@ -56,7 +56,7 @@ fn reconciled(alloc: Global, status: &TaskStatus) -> Result<Event, NoMemory>
     Ok(Event::Update(Update { status }))
 }
 
-/// Returns such an UPDATE of the last status of each task.
+/// Returns the UPDATEs for a RECONCILE that names no task: one of the last status of each task.
 fn reconciled_all(alloc: Global, latest: &IndexMap<Id, TaskStatus>) -> Result<Vec<Event>, NoMemory>
     ensures { IfOk result (λ events. events.items
         ≡ map reconciled_event (values_of latest.now.entries)) }
@@ -71,7 +71,7 @@ fn reconciled_all(alloc: Global, latest: &IndexMap<Id, TaskStatus>) -> Result<Ve
     Ok(events)
 }
 
-/// Appends such an UPDATE of the last status of a task, if there is one.
+/// Appends the UPDATE for a RECONCILE of the last status of a task, if the task has a status.
 fn push_reconciled(
     alloc: Global,
     events: &mut Vec<Event>,
@@ -89,7 +89,8 @@ fn push_reconciled(
     Ok(())
 }
 
-/// Returns such an UPDATE of the last status of each of these tasks, if there is one.
+/// Returns the UPDATEs for a RECONCILE that names tasks: one of the last status of each of these
+/// tasks that has a status.
 fn reconciled_of(
     alloc: Global,
     latest: &IndexMap<Id, TaskStatus>,
@@ -111,7 +112,8 @@ pub fn reconcile(
     latest: &IndexMap<Id, TaskStatus>,
     tasks: &[TaskRef],
 ) -> Result<Vec<Event>, NoMemory>
-    // On success: the last statuses that the RECONCILE asks for, without UUIDs.
+    // On success: an UPDATE without a UUID for the last status of each task that the RECONCILE asks
+    // for.
     ensures { IfOk result (λ events. events.items
         ≡ map reconciled_event (asked_for latest.now.entries tasks.now)) }
 {

@@ -1,4 +1,4 @@
-//! The identifiers of offers and tasks.
+//! The sets of identifiers that a master retains: of offers made and of tasks launched.
 ghost use Rattle.std.specs.Prelude.{◌≡◌, ◌||◌, ◌++◌, ◌+◌, ◌<◌, ◌≤◌, false, length, option_map, IfOk, OnOk, OnErr};
 ghost use Rattle.std.specs.List.{list_any};
 ghost use Rattle.indexmap.specs.IndexSet.{spare, insert_key, insert_all};
@@ -20,7 +20,7 @@ fn has_id(offers: &[Offer], id: &Id) -> bool
     offers.iter().any(|offer| id == &offer.id)
 }
 
-/// Returns whether an offer's identifier was used before or is used by a later offer.
+/// Returns whether an offer's identifier is in `offered`, or is that of an offer in `following`.
 fn is_repeated(offered: &IndexSet<Id>, offer: &Offer, following: &[Offer]) -> bool
     ensures { result ≡ (is_among offer.now.id offered.now.keys || is_among offer.now.id
         (offer_ids following.now)) }
@@ -28,7 +28,8 @@ fn is_repeated(offered: &IndexSet<Id>, offer: &Offer, following: &[Offer]) -> bo
     offered.contains(&offer.id) || has_id(following, &offer.id)
 }
 
-/// Returns whether an offer's identifier was used before or occurs twice.
+/// Returns whether the identifier of one of the offers is in `offered`, or is that of two of the
+/// offers.
 pub fn is_duplicate(offered: &IndexSet<Id>, offers: &[Offer]) -> bool
     ensures { result ≡ is_duplicate offered.now.keys (offer_ids offers.now) }
 {
@@ -84,7 +85,8 @@ pub fn reserve(ids: &mut IndexSet<Id>, more: usize) -> Result<(), NoMemory>
     Ok(())
 }
 
-/// Adds an identifier within the spare capacity; one that is present stays in its place.
+/// Adds an identifier within the spare capacity. An identifier that is already in the set keeps its
+/// place.
 fn put_id(ids: &mut IndexSet<Id>, id: Id)
     requires { 0 < spare ids.old }
     ensures keys { ids.new.keys ≡ insert_key same_id ids.old.keys id }
@@ -93,7 +95,8 @@ fn put_id(ids: &mut IndexSet<Id>, id: Id)
     ids.insert(id).unwrap();
 }
 
-/// Adds identifiers in order within the spare capacity; one that is present stays in its place.
+/// Adds identifiers in order within the spare capacity. An identifier that is already in the set
+/// keeps its place.
 fn put_ids(ids: &mut IndexSet<Id>, more: Vec<Id>)
     requires { length more.items ≤ spare ids.old }
     ensures { ids.new.keys ≡ insert_all same_id ids.old.keys more.items }
@@ -112,8 +115,8 @@ pub fn put_new(ids: &mut IndexSet<Id>, more: Vec<Id>)
     put_ids(ids, more);
 }
 
-/// Adds the identifiers of the tasks that the operations launch, unless present. Errors: `NoMemory`
-/// if an allocation fails; nothing is then changed.
+/// Adds the identifiers of the tasks that the operations launch, except those already in the set.
+/// Errors: `NoMemory` if an allocation fails; nothing is then changed.
 pub fn launch(
     alloc: Global,
     known: &mut IndexSet<Id>,

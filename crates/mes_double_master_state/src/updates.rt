@@ -1,4 +1,4 @@
-//! The updates that a master has sent.
+//! The updates that a master has sent: the last status of each task, and the acknowledgements.
 ghost use Rattle.std.specs.Prelude.{◌≡◌, ◌<◌, ◌++◌, [], ◌∷◌, false, None, not, filter, slice_get, option_map, option_copied, IfOk, OnOk, OnErr};
 ghost use Rattle.std.specs.Map.{lookup};
 ghost use Rattle.indexmap.specs.IndexMap.{spare, insert_entry};
@@ -14,7 +14,7 @@ use mes_msg::Acknowledge;
 use mes_session_state::UpdateKeys;
 use std::alloc::Global;
 
-/// Returns the key of the acknowledged update.
+/// Returns the key of the update that an ACKNOWLEDGE names: agent, task and UUID.
 pub fn key_in(alloc: Global, body: &Acknowledge) -> Result<OwedKey, NoMemory>
     ensures { IfOk result (λ key. key ≡ key_in body.now) }
 {
@@ -25,21 +25,22 @@ pub fn key_in(alloc: Global, body: &Acknowledge) -> Result<OwedKey, NoMemory>
     })
 }
 
-/// Returns whether there is an update with the key, acknowledged or not.
+/// Returns whether an update with the key was sent, acknowledged or not.
 pub fn has_update(owing: &IndexMap<OwedKey, TaskStatus>, key: &OwedKey) -> bool
     ensures { result ≡ has_update owing.now.entries key.now }
 {
     owing.contains_key(key)
 }
 
-/// Records the status as the last of its task. Errors: `NoMemory` if an allocation fails; nothing
-/// is then changed.
+/// Records the status as the last status of its task. Errors: `NoMemory` if an allocation fails;
+/// nothing is then changed.
 pub fn note(
     alloc: Global,
     latest: &mut IndexMap<Id, TaskStatus>,
     status: &TaskStatus,
 ) -> Result<(), NoMemory>
-    // On success: the status replaces the last one of its task, or is appended.
+    // On success: the status replaces the last status of its task, or is appended if the task has
+    // none.
     ensures ok { OnOk result (latest.new.entries
         ≡ insert_entry same_id latest.old.entries status.now.task_id status.now) }
     ensures err { OnErr result (latest.new.entries ≡ latest.old.entries) }
@@ -51,7 +52,8 @@ pub fn note(
     Ok(())
 }
 
-/// Replaces the last status of a task, or appends it within the spare capacity.
+/// Replaces the last status of a task, or appends the task and its status within the spare
+/// capacity.
 fn put_last(latest: &mut IndexMap<Id, TaskStatus>, task: Id, status: TaskStatus)
     requires { 0 < spare latest.old }
     ensures { latest.new.entries ≡ insert_entry same_id latest.old.entries task status }
@@ -83,8 +85,9 @@ fn push_update(owing: &mut IndexMap<OwedKey, TaskStatus>, key: OwedKey, status: 
     put_entry(owing, key, status);
 }
 
-/// Records the status as the last of its task, and as an update that requires an acknowledgement.
-/// Its key must be new. Errors: `NoMemory` if an allocation fails; nothing is then changed.
+/// Records the status as the last status of its task, and as an update that requires an
+/// acknowledgement. The key of the update must be new. Errors: `NoMemory` if an allocation fails;
+/// nothing is then changed.
 pub fn record_update(
     alloc: Global,
     latest: &mut IndexMap<Id, TaskStatus>,
@@ -93,7 +96,8 @@ pub fn record_update(
     status: &TaskStatus,
 ) -> Result<(), NoMemory>
     requires { has_update owing.old.entries key ≡ false }
-    // On success: the status replaces the last one of its task, or is appended.
+    // On success: the status replaces the last status of its task, or is appended if the task has
+    // none.
     ensures latest { OnOk result (latest.new.entries
         ≡ insert_entry same_id latest.old.entries status.now.task_id status.now) }
     ensures owing { OnOk result (owing.new.entries ≡ owing.old.entries ++ (key, status.now) ∷ []) }
@@ -108,13 +112,14 @@ pub fn record_update(
     Ok(())
 }
 
-/// Returns the update at an index among the unacknowledged ones.
+/// Returns the update at an index in the list of unacknowledged updates.
 pub fn pending_at<'a>(
     owing: &'a IndexMap<OwedKey, TaskStatus>,
     acked: &UpdateKeys,
     index: usize,
 ) -> Option<&'a TaskStatus>
-    // The update at the index among those whose keys are not in `acked`.
+    // The result is the update at the index in the list of the updates whose keys are not in
+    // `acked`.
     ensures { option_copied result ≡ option_map (λ e. e.1)
         (slice_get (waiting owing.now.entries acked.now) index) }
 {

@@ -1,4 +1,4 @@
-//! Sequences of calls.
+//! Tests of a master with sequences of calls.
 
 use crate::support::expect_run;
 use std::test::Fail;
@@ -19,8 +19,8 @@ update {"type":"UPDATE","update":{"status":{"task_id":{"value":"T1"},"state":"TA
 resend 0 => {"type":"UPDATE","update":{"status":{"task_id":{"value":"T1"},"state":"TASK_RUNNING","agent_id":{"value":"A1"},"uuid":"AAECAwQFBgcICQoLDA0ODw=="}}} => / T1 / / 2
 "#;
 
-/// Tasks are launched, each identifier once, if at least one offer is named and all are
-/// outstanding. The offers are removed in any case.
+/// An ACCEPT launches its tasks, each identifier once, if it names at least one offer and all named
+/// offers are outstanding. The named offers are removed in any case.
 const LAUNCHES: &str =
     r#"- {"type":"SUBSCRIBE","subscribe":{"framework_info":{"user":"root","name":"n"}}} => 200 {"type":"SUBSCRIBED","subscribed":{"framework_id":{"value":"F1"},"heartbeat_interval_seconds":15.0}} => / / / 1
 offer {"type":"OFFERS","offers":{"offers":[{"id":{"value":"O1"},"framework_id":{"value":"F1"},"agent_id":{"value":"A1"},"hostname":"h"},{"id":{"value":"O2"},"framework_id":{"value":"F1"},"agent_id":{"value":"A1"},"hostname":"h"},{"id":{"value":"O3"},"framework_id":{"value":"F1"},"agent_id":{"value":"A1"},"hostname":"h"},{"id":{"value":"O4"},"framework_id":{"value":"F1"},"agent_id":{"value":"A1"},"hostname":"h"}]}} => {"type":"OFFERS","offers":{"offers":[{"id":{"value":"O1"},"framework_id":{"value":"F1"},"agent_id":{"value":"A1"},"hostname":"h"},{"id":{"value":"O2"},"framework_id":{"value":"F1"},"agent_id":{"value":"A1"},"hostname":"h"},{"id":{"value":"O3"},"framework_id":{"value":"F1"},"agent_id":{"value":"A1"},"hostname":"h"},{"id":{"value":"O4"},"framework_id":{"value":"F1"},"agent_id":{"value":"A1"},"hostname":"h"}]}} => O1 O2 O3 O4 / / / 1
@@ -38,8 +38,8 @@ offer {"type":"OFFERS","offers":{"offers":[{"id":{"value":"O8"},"framework_id":{
 1 {"type":"ACCEPT","framework_id":{"value":"F1"},"accept":{"offer_ids":[{"value":"O8"},{"value":"O8"}],"operations":[{"type":"LAUNCH","launch":{"task_infos":[{"name":"n","task_id":{"value":"T5"},"agent_id":{"value":"A1"}}]}}]}} => 202 => / T2 T1 T3 T4 T5 / / 1
 "#;
 
-/// Offers end with their stream; the rest of the state stays. There is no further stream without an
-/// id left, or after a TEARDOWN.
+/// Offers end with their stream; the rest of the state stays. No stream opens if no id is left, or
+/// after a TEARDOWN.
 const STREAMS: &str =
     r#"9 {"type":"SUBSCRIBE","framework_id":{"value":"F1"},"subscribe":{"framework_info":{"user":"root","name":"n"}}} => 200 {"type":"SUBSCRIBED","subscribed":{"framework_id":{"value":"F1"},"heartbeat_interval_seconds":15.0}} => / / / 1
 offer {"type":"OFFERS","offers":{"offers":[{"id":{"value":"O1"},"framework_id":{"value":"F1"},"agent_id":{"value":"A1"},"hostname":"h"}]}} => {"type":"OFFERS","offers":{"offers":[{"id":{"value":"O1"},"framework_id":{"value":"F1"},"agent_id":{"value":"A1"},"hostname":"h"}]}} => O1 / / / 1
@@ -66,7 +66,7 @@ const TORN: &str =
 - {"type":"SUBSCRIBE","subscribe":{"framework_info":{"user":"root","name":"n"}}} => 403 => / / / -
 "#;
 
-/// An ACKNOWLEDGE is recorded once, and only for an update that was made.
+/// An ACKNOWLEDGE is recorded once, and only for an update that was sent.
 const ACKNOWLEDGED: &str =
     r#"- {"type":"SUBSCRIBE","subscribe":{"framework_info":{"user":"root","name":"n"}}} => 200 {"type":"SUBSCRIBED","subscribed":{"framework_id":{"value":"F1"},"heartbeat_interval_seconds":15.0}} => / / / 1
 1 {"type":"ACKNOWLEDGE","framework_id":{"value":"F1"},"acknowledge":{"agent_id":{"value":"A1"},"task_id":{"value":"T1"},"uuid":"AAECAwQFBgcICQoLDA0ODw=="}} => 202 => / / / 1

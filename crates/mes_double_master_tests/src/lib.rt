@@ -1,5 +1,5 @@
 //! Tests of the crate `mes_double_master` through its public functions. Tables of actions state the
-//! result and the master's state; `support` has the format.
+//! result of each action and the master's state after it; `support` describes the format.
 #![tactic(auto)]
 
 #[cfg(test)]

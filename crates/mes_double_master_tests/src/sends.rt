@@ -1,4 +1,4 @@
-//! The events that a master sends without a call, and its refusals.
+//! Tests of the events that a master sends without a call, and of its refusals.
 
 use crate::support::expect_run;
 use std::test::Fail;
@@ -28,8 +28,8 @@ update {"type":"UPDATE","update":{"status":{"task_id":{"value":"T1"},"state":"TA
 resend 0 => M1 => / / / -
 "#;
 
-/// A status without a UUID, with an empty one, or without an agent requires no acknowledgement: it
-/// may be repeated and is never resent.
+/// A status without a UUID, with an empty UUID, or without an agent requires no acknowledgement:
+/// the status may be sent again, and `resend` never sends it.
 const OWING: &str =
     r#"- {"type":"SUBSCRIBE","subscribe":{"framework_info":{"user":"root","name":"n"}}} => 200 {"type":"SUBSCRIBED","subscribed":{"framework_id":{"value":"F1"},"heartbeat_interval_seconds":15.0}} => / / / 1
 update {"type":"UPDATE","update":{"status":{"task_id":{"value":"T1"},"state":"TASK_RUNNING","agent_id":{"value":"A1"}}}} => {"type":"UPDATE","update":{"status":{"task_id":{"value":"T1"},"state":"TASK_RUNNING","agent_id":{"value":"A1"}}}} => / / / 1

@@ -1,4 +1,4 @@
-//! The status of each call in each state.
+//! Tests of the status of the response to each call in each state of a master.
 
 use crate::support::{called, new_master};
 use mes_double_master::Master;
@@ -13,8 +13,8 @@ const SUBSCRIBE: &str =
 const TEARDOWN: &str = r#"{"type":"TEARDOWN","framework_id":{"value":"F1"}}"#;
 
 /// Calls of this framework and then of another, with their statuses in three states: before a
-/// SUBSCRIBE, after two, and after a TEARDOWN. In each state the call names the second stream, the
-/// first, and none.
+/// SUBSCRIBE, after two, and after a TEARDOWN. In each state the call names the second stream, then
+/// the first stream, then none.
 const STATUSES: &str =
     r#"{"type":"SUBSCRIBE","subscribe":{"framework_info":{"user":"root","name":"n"}}} => 200 200 200 / 200 200 200 / 403 403 403
 {"type":"ACCEPT","framework_id":{"value":"F1"},"accept":{"offer_ids":[{"value":"O1"}],"operations":[{"type":"LAUNCH","launch":{"task_infos":[{"name":"n","task_id":{"value":"T1"},"agent_id":{"value":"A1"}}]}}]}} => 403 403 403 / 202 400 400 / 403 403 403
@@ -53,7 +53,8 @@ fn bring_to(alloc: Global, master: &mut Master, state: usize) -> Result<(), Fail
     Ok(())
 }
 
-/// Returns the status of a new master's response to a call in this state on this stream.
+/// Returns the status of the response to a call that names this stream, of a new master brought to
+/// this state.
 fn status_of(
     alloc: Global,
     master: &mut Master,
@@ -74,7 +75,7 @@ fn status_in(alloc: Global, state: usize, stream: &str, call: &str) -> Result<St
     status
 }
 
-/// Returns the statuses of a call in each state on each stream.
+/// Returns the statuses of a call in each state, with each stream that the call may name.
 fn statuses_of(alloc: Global, call: &str) -> Result<String, Fail> {
     let mut text = String::new(alloc);
     for state in 0..3 {

@@ -1,13 +1,14 @@
-//! The format of the tables, and their interpreter.
+//! The format of the tables of tests, and the functions that run the rows.
 //!
 //! A row is `ACTION => RESULT => STATE`. An action is one of:
 //! - a call, such as `2 {"type":"REVIVE",..}`, with the number of the stream that it names, or `-`;
 //! - `offer EVENT`, `rescind ID`, `update EVENT` or `resend INDEX`.
 //!
 //! The result of a call is its status and the canonical texts of the events. Other results are the
-//! canonical text of the event, or the number of the refusal. A state, such as
-//! `O1 O2 / T1 / T1 / 2`, has four parts: the outstanding offers, the launched tasks, those of
-//! acknowledged updates, the stream. Stream N has the id `00000000-0000-4000-8000-00000000000N`.
+//! canonical text of the event, or the number of the refusal. A state, such as `O1 O2 / T1 / T1 /
+//! 2`, has four parts: the outstanding offers, the launched tasks, the tasks of acknowledged
+//! updates, the number of the current stream. Stream N has the id
+//! `00000000-0000-4000-8000-00000000000N`.
 
 use mes_double_http::StreamId;
 use mes_double_master::{Answer, Master, MasterRefusal};
@@ -104,7 +105,7 @@ fn sent(alloc: Global, answer: Result<Event, MasterRefusal>) -> Result<String, F
     }
 }
 
-/// Handles a call that names this stream or none, and prints the response.
+/// Has the master handle a call that names this stream or none, and returns the printed response.
 fn handled(
     alloc: Global,
     master: &mut Master,
@@ -134,7 +135,8 @@ fn called_by(
     handled(alloc, master, call, Some(&id))
 }
 
-/// Handles the call with this text that names the stream with this number, or none for `-`.
+/// Has the master handle the call with this text. The call names the stream with this number, or
+/// none for `-`.
 pub(crate) fn called(
     alloc: Global,
     master: &mut Master,
@@ -214,7 +216,7 @@ fn launched(alloc: Global, master: &Master) -> Result<String, Fail> {
     Ok(text)
 }
 
-/// Prints the tasks of the acknowledged updates.
+/// Returns the tasks of the acknowledged updates as a text.
 fn acked(alloc: Global, master: &Master) -> Result<String, Fail> {
     let mut text = String::new(alloc);
     for index in 0..master.acked_len() {
@@ -232,14 +234,14 @@ fn stream(master: &Master) -> &str {
     }
 }
 
-/// Returns whether each list ends after its last element.
+/// Returns whether each getter of the master returns `None` at the index after its last element.
 fn ends(master: &Master) -> bool {
     master.outstanding_at(master.outstanding_len()).is_none()
         && master.launched_at(master.launched_len()).is_none()
         && master.acked_at(master.acked_len()).is_none()
 }
 
-/// Prints the master's state, by its getters.
+/// Returns the master's state, read through its getters, as a text.
 fn held(alloc: Global, master: &Master) -> Result<String, Fail> {
     let offers = outstanding(alloc, master)?;
     let tasks = launched(alloc, master)?;
@@ -276,7 +278,7 @@ fn expect_rows<R: Abort + AllocGlobal>(
     Ok(())
 }
 
-/// Expects the result and the state of each row, with a new master.
+/// Runs the rows on a new master, and expects the result and the state of each.
 pub(crate) fn expect_run<R: Abort + AllocGlobal>(rt: &R, rows: &str) -> Result<(), Fail> {
     let mut master = new_master(rt.alloc())?;
     let answer = expect_rows(rt, &mut master, rows);

@@ -6,7 +6,8 @@ use mes_msg::Event;
 use mes_session::Session;
 use std::alloc::Global;
 
-/// Returns the printed state in one line: the master, the session, and what is between them.
+/// Returns the state of a world in one line: the master, the session, and the messages between
+/// them.
 pub(crate) fn end_of(alloc: Global, world: &World) -> Result<String, NoMemory> {
     let mut line = String::new(alloc);
     tell_master(&mut line, world.master())?;
@@ -63,7 +64,7 @@ fn tell_launched(line: &mut String, master: &Master) -> Result<(), NoMemory> {
     Ok(())
 }
 
-/// Appends the tasks of the acknowledged updates.
+/// Appends the tasks of the updates that the master has recorded as acknowledged.
 fn tell_acked(line: &mut String, master: &Master) -> Result<(), NoMemory> {
     line.push_str(" | acked")?;
     for index in 0..master.acked_len() {
@@ -97,7 +98,7 @@ fn tell_hand(line: &mut String, session: &Session) -> Result<(), NoMemory> {
     Ok(())
 }
 
-/// Appends the tasks of the unacknowledged updates.
+/// Appends the tasks of the updates that the session has not acknowledged.
 fn tell_owed(line: &mut String, session: &Session) -> Result<(), NoMemory> {
     line.push_str(" | owed")?;
     for index in 0..session.owed_len() {

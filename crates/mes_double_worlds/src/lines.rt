@@ -1,4 +1,4 @@
-//! The lines that represent moves.
+//! Reading of the lines that represent moves.
 
 use mes_double::Move;
 use mes_json::{NoMemory, Text};
@@ -9,7 +9,7 @@ use uuid::Uuid;
 /// The content of a line.
 #[derive(Drop)]
 pub(crate) enum Line {
-    /// One more move.
+    /// A move to append to the list of moves.
     Move(Move),
     /// The end of the list of moves.
     End,
@@ -28,7 +28,7 @@ pub(crate) fn read_line(alloc: Global, line: &str) -> Option<Line> {
     }
 }
 
-/// Reads the move with this name.
+/// Reads a move from the first word of a line, its name, and the rest of the line.
 fn read_move(alloc: Global, word: &str, rest: &str) -> Option<Move> {
     match word {
         "offer" => read_offer(alloc, rest),
@@ -41,7 +41,7 @@ fn read_move(alloc: Global, word: &str, rest: &str) -> Option<Move> {
     }
 }
 
-/// Reads a move that makes the offers of an OFFERS.
+/// Reads the move that makes the offers of the OFFERS event in `text`.
 fn read_offer(alloc: Global, text: &str) -> Option<Move> {
     match Event::read_record(alloc, text.as_bytes()) {
         Ok(Event::Offers(offers)) => Some(Move::Offer(offers)),
@@ -49,7 +49,7 @@ fn read_offer(alloc: Global, text: &str) -> Option<Move> {
     }
 }
 
-/// Reads a move that sends the status of an UPDATE.
+/// Reads the move that sends the status of the UPDATE event in `text`.
 fn read_update(alloc: Global, text: &str) -> Option<Move> {
     match Event::read_record(alloc, text.as_bytes()) {
         Ok(Event::Update(body)) => Some(Move::Update(body.status.into_inner())),

@@ -4,7 +4,7 @@
 //! - `lines`: reads a line as a move of the crate `mes_double`.
 //! - `ends`: prints a world.
 //!
-//! The files stdin and stdout are the input and the expected output of its test.
+//! The files stdin and stdout are the input and the expected output of the program's test.
 #![tactic(auto)]
 
 mod ends;
@@ -18,10 +18,10 @@ use mes_model::Id;
 use std::alloc::Global;
 use std::io::{self, BufRead, BufReader};
 
-/// The number of stream ids of a list's master.
+/// The number of streams that the master of each list can open.
 const STREAMS: u8 = 2;
 
-/// Makes the moves and prints the final world.
+/// Makes the moves, and returns the printed form of the final world.
 fn reported(alloc: Global, moves: &[Move]) -> Result<String, NoMemory> {
     let value = Text::of(alloc, "F1")?;
     let ids = ids_from_one(alloc, STREAMS)?;
@@ -37,7 +37,8 @@ fn tell(rt: &HostRuntime, moves: &[Move]) -> io::Result<()> {
     }
 }
 
-/// Executes a line: one more move, or the end of the list.
+/// Executes a line: appends its move to `moves`, prints the final world at `end`, or reports an
+/// invalid line.
 fn take(rt: &HostRuntime, moves: &mut Vec<Move>, line: &str) -> io::Result<()> {
     match read_line(rt.alloc(), line) {
         Some(Line::Move(next)) => moves.push(next)?,

@@ -1,4 +1,4 @@
--- The arguments of `convert`.
+-- Arguments of `convert` in the usual spelling are accepted, and give the values that they name.
 use Rattle.std.proofs.Common.{◌≡◌, ◌++◌, ◌∙◌, ap, append_assoc, subst, sym, ℕ, List, [], ◌∷◌, Option, Some, None, false, refl}
 use Rattle.std.specs.Prelude.{codes, fold}
 use Rattle.clap.specs.Words.{Row, Rule, Text, one_of}
@@ -14,7 +14,7 @@ use Rattle.mesosev_args.proofs.Subcommands.{IsSubcommand, leaf_shape}
 use Rattle.mesosev_args.proofs.ParsedArgs.{Takes, takes_words}
 use Rattle.mesosev_args.proofs.Walks.{IsOption, IsUsable, Reaches, end_fault, given_value, given_words, reaches_option, used_value}
 
--- the arguments, built
+-- the rules of the subcommand's arguments, as clap builds them
 abbrev rules : List Rule
 rules = filled_from 1 (chunked_rule ∷ limit_rule ∷ most_rule ∷ help_rule ∷ version_rule ∷ [])
 
@@ -34,7 +34,7 @@ most_usable Plain (Some v) (Some w) fits = simp fits refl
 most_usable Chunked None (Some w) fits = simp fits refl
 most_usable Chunked (Some v) (Some w) fits = simp fits refl
 
--- the rows after the arguments
+-- the rows of the matches after all arguments
 abbrev rows_said : Framing → Option Text → Option Text → List Row
 rows_said framing v w = used_value (filled most_rule) w (rows_limit framing v)
 
@@ -65,7 +65,7 @@ good_end Chunked None (Some w) = refl
 good_end Chunked (Some v) None = refl
 good_end Chunked (Some v) (Some w) = refl
 
--- the arguments are accepted, and have the values
+-- clap accepts the arguments, and the matches have these values
 pub record SaidConvert (words : List Text) (framing : Framing) (limit : ℕ) (most : Option ℕ) : Type 0 where
   pub rows : List Row
   pub takes : Takes words (codes "convert") rows

@@ -1,4 +1,5 @@
--- The arguments of the subcommands that have `--limit` only: `replay` and `relog`.
+-- Arguments of `replay` and `relog`, which have `--limit` only, are accepted in the usual spelling,
+-- and give the value that they name.
 use Rattle.std.proofs.Common.{◌≡◌, ◌++◌, ◌∙◌, ap, append_assoc, subst, sym, ℕ, List, [], ◌∷◌, Option, Some, None, false, refl, arith, inl, inr}
 use Rattle.std.specs.Prelude.{IsSomeAnd, codes, fold}
 use Rattle.clap.specs.Words.{Row, Rule, Text, first_of, one_of}
@@ -13,7 +14,7 @@ use Rattle.mesosev_args.proofs.Subcommands.{IsSubcommand, leaf_shape}
 use Rattle.mesosev_args.proofs.ParsedArgs.{Takes, takes_words}
 use Rattle.mesosev_args.proofs.Walks.{IsUsable, Reaches, end_fault, given_value, given_words, reaches_option, reaches_start, used_value}
 
--- the arguments, built
+-- the rules of the subcommand's arguments, as clap builds them
 abbrev rules : List Rule
 rules = filled_from 1 (limit_rule ∷ help_rule ∷ version_rule ∷ [])
 
@@ -39,7 +40,7 @@ unfolding clap_on_literals
 good_end name None = refl
 good_end name (Some v) = refl
 
--- the arguments are accepted, and have the value
+-- clap accepts the arguments, and the matches have this value
 pub record SaidLog (words : List Text) (name : Text) (limit : ℕ) : Type 0 where
   pub rows : List Row
   pub takes : Takes words name rows

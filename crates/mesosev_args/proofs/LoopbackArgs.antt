@@ -1,4 +1,4 @@
--- The arguments of `loopback`.
+-- Arguments of `loopback` in the usual spelling are accepted, and give the value that they name.
 use Rattle.std.proofs.Common.{◌≡◌, ◌++◌, ◌∙◌, ap, append_assoc, subst, sym, ℕ, List, [], ◌∷◌, Option, Some, None, false, refl, arith, inl, inr}
 use Rattle.std.specs.Prelude.{IsSomeAnd, codes, fold}
 use Rattle.clap.specs.Words.{Row, Rule, Text, first_of, one_of}
@@ -18,7 +18,7 @@ use Rattle.mesosev_args.proofs.Walks.{IsOption, IsUsable, Reaches, end_fault, gi
 abbrev rule : Rule
 rule = usually DEFAULT_LOOPBACK_CHUNK.now most_rule
 
--- the arguments, built
+-- the rules of the subcommand's arguments, as clap builds them
 abbrev rules : List Rule
 rules = filled_from 1 (rule ∷ help_rule ∷ version_rule ∷ [])
 
@@ -53,7 +53,7 @@ unfolding clap_on_literals
 good_end None = refl
 good_end (Some v) = refl
 
--- the arguments are accepted, and have the value
+-- clap accepts the arguments, and the matches have this value
 pub record SaidLoopback (words : List Text) (most : ℕ) : Type 0 where
   pub rows : List Row
   pub takes : Takes words (codes "loopback") rows

@@ -1,4 +1,4 @@
--- A subcommand's name and its matches are those of at most one value of options.
+-- A subcommand's name and its matches are those of at most one value of the type `Options`.
 use Rattle.std.proofs.Common.{◌≡◌, ◌∙◌, ap, ℕ, List, ◌∷◌, [], Option, Some, None, refl, sym, subst}
 use Rattle.std.specs.Prelude.{IsSomeAnd, codes, find, option_map}
 use Rattle.std.specs.Str.{bytes_eq}
@@ -11,7 +11,7 @@ use Rattle.mes_stream.specs.declared.stream_reader.Framing.{Framing}
 use Rattle.mes_stream.specs.declared.stream_reader.Framing.TheVariants.{Plain, Chunked}
 use Rattle.mesosev_args.proofs.NumberLemmas.{HasNumber-once}
 
--- the subcommands
+-- the subcommands of `mesosev`
 pub data Verb : Type 0 where
   checks : Verb
   shows : Verb
@@ -30,8 +30,8 @@ verbs = (codes "check", checks) ∷ (codes "show", shows) ∷ (codes "convert", 
 abbrev pub verb_of : Text → Option Verb
 verb_of name = option_map (λ v. v.1) (find (λ v. bytes_eq v.0 name) verbs)
 
--- The matches are those of the options of this subcommand. The case split is by the subcommand
--- first, so that no pair of different subcommands is left.
+-- The matches are those of these options, which are of this subcommand. The definition splits on
+-- the subcommand first, so that proofs need no case for two different subcommands.
 abbrev pub IsReadBy : Option Verb → List Row → Options → Type 0
 IsReadBy None rows o = ⊥
 IsReadBy (Some checks) rows o = (framing : Framing) × (limit : ℕ) × (o ≡ Check framing limit) × HasFraming rows framing × HasLimit rows limit

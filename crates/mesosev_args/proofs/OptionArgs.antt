@@ -1,4 +1,4 @@
--- The arguments that set a flag or give an option its value, in clap's model.
+-- The arguments that set a flag or give an option of the command line its value, in clap's model.
 use Rattle.std.proofs.Common.{◌≡◌, ◌++◌, ◌≤◌, ◌==◌, ◌∙◌, ℕ, List, [], ◌∷◌, Option, Some, None, Bool, true, false, inl, inr, refl, sym, subst, arith}
 use Rattle.std.specs.Prelude.{IsSomeAnd, codes, option_map, pos}
 use Rattle.std.specs.Str.Parse.{IsNumeral, without_leading_plus}
@@ -21,22 +21,22 @@ use Rattle.mes_frame.specs.declared.limits.TheConstants.{MIN_CHUNK, MAX_CHUNK, M
 use Rattle.mesosev_args.specs.declared.args.TheConstants.{DEFAULT_LIMIT}
 use Rattle.mesosev_args.proofs.Walks.{Given, IsFlag, IsNoFlag, IsOption, IsUsable, Reaches, reaches_option, absent, apart, given_value, given_words, joined, reaches_flag, reaches_start, used_value}
 
--- ---- a number in a range
+-- ---- arguments that give an option a number in a range
 
 abbrev pub number_parser : ℕ → ℕ → ValueParser
 number_parser least most = vp.Signed (pos least) (pos most)
 
--- the parser accepts the value, if there is one
+-- the parser accepts the value, or no value is given
 abbrev pub Fits : ValueParser → Option Text → Type 0
 Fits parser None = Unit {0}
 Fits parser (Some v) = value_kinds false parser v ≡ []
 
--- the value, or the default if it is not given
+-- the given value, or the default if no value is given
 abbrev pub value_or : Option Text → Option Text → Option Text
 value_or usual None = usual
 value_or usual (Some v) = Some v
 
--- the value as a number is read from it, without a leading hyphen
+-- the given value without a leading hyphen, from which the number is read
 abbrev pub read_value : Option Text → Option Text
 read_value = option_map without_minus
 
@@ -56,7 +56,7 @@ no_hyphen x xs h = go (x == 43) refl
         let numeral : IsNumeral 10 (x ∷ xs) = rw is at h in
         ne_eqb _ _ (λ e. omega (arith, digit_from_value x numeral.1.0, e))
 
--- the arguments give the option, or leave it out; then its text writes the number
+-- the arguments give the option or leave it out; the option's text (or default) writes n
 pub record Says (option : Text) (usual : Option Text) (parser : ValueParser) (words : List Text) (n : ℕ) : Type 0 where
   pub given : Given
   pub is : words ≡ given_words option given
@@ -66,7 +66,7 @@ pub record Says (option : Text) (usual : Option Text) (parser : ValueParser) (wo
   pub text_is : value_or usual (given_value given) ≡ Some text
   pub writes : Writes text n
 
--- a range of numbers of 32 bits
+-- for a range of 32-bit numbers
 module _ (least most : ℕ) (small : most ≤ 4294967295) where
   accepted : (x : ℕ) (xs : Text) (n : ℕ) → (x == 45) ≡ false → Writes (x ∷ xs) n → (least ≤ n) × (n ≤ most) → Accepts false (number_parser least most) (x ∷ xs)
   accepted x xs n plain writes range = rw plain (writes.0, omega (arith, ints, writes.1, range.0, range.1), omega (arith, ints, writes.1, range.0, range.1), omega (arith, ints, writes.1, range.0, range.1))
@@ -82,20 +82,20 @@ module _ (least most : ℕ) (small : most ≤ 4294967295) where
   says_number option usual words n (x ∷ xs, writes, inr is) range =
       record { given = joined x xs; is = is; plain = no_hyphen x xs writes.0; fits = passes x xs n writes range; text = x ∷ xs; text_is = refl; writes = writes }
 
-  -- the same if they may leave it out, for the default
+  -- arguments that give the option a number in the range, or leave it out for the default
   pub says_usually : (option usual : Text) (words : List Text) (n : ℕ) → SayUsually usual option words n → (least ≤ n) × (n ≤ most)
       → Says option (Some usual) (number_parser least most) words n
   says_usually option usual words n (inl (is, writes)) range =
       record { given = absent; is = is; plain = tt; fits = tt; text = usual; text_is = refl; writes = writes }
   says_usually option usual words n (inr says) range = says_number option (Some usual) words n says range
 
--- ---- a given option
+-- ---- arguments that give an option a text
 
 pub value_or_none : (v : Option Text) → value_or None v ≡ v
 value_or_none None = refl
 value_or_none (Some v) = refl
 
--- the arguments give the option this text
+-- the arguments give the option this text, which the parser accepts
 pub record Gives (option : Text) (parser : ValueParser) (words : List Text) (text : Text) : Type 0 where
   pub given : Given
   pub is : words ≡ given_words option given
@@ -113,7 +113,7 @@ gives_text option words [] (plain, is) = absurd plain
 gives_text option words (x ∷ xs) (plain, inl is) = record { given = apart x xs; is = is; value_is = refl; plain = plain; fits = refl }
 gives_text option words (x ∷ xs) (plain, inr is) = record { given = joined x xs; is = is; value_is = refl; plain = plain; fits = refl }
 
--- the arguments lead to the rows after the option
+-- if arguments are accepted with these rows, adding the option adds the option's row
 pub reaches_given : (s : Shape) (a : Rule) (option name : Text) → IsOption s.rules a option name → (words more : List Text) (rows : List Row) → Reaches s words rows
     → (parser : ValueParser) (text : Text) → (g : Gives option parser more text) → IsUsable s.args_override_self a (Some text) rows
     → Reaches s (words ++ given_words option g.given) (used a (text ∷ []) rows)
@@ -122,13 +122,13 @@ reaches_given s a option name is words more rows r parser text g usable =
     (reaches_option s a option name is words rows r g.given (subst IsNoFlag (sym g.value_is) g.plain)
     (subst (λ (v : Option Text). IsUsable s.args_override_self a v rows) (sym g.value_is) usable))
 
--- the number of a given option
+-- an option without a default has the number that the arguments give
 pub given_number : (held : Option Text) (option : Text) (parser : ValueParser) (words : List Text) (n : ℕ) → (s : Says option None parser words n)
     → held ≡ read_value (Some s.text) → IsSomeAnd held (λ text. Writes text n)
 given_number held option parser words n s is =
     subst (λ (h : Option Text). IsSomeAnd h (λ text. Writes text n)) (sym (is ∙ read_plain (Some s.text) (gives_number option parser words n s).plain)) s.writes
 
--- the text of an option in the rows, as the number that it writes
+-- the text of an option in the matches writes the number that the arguments give
 pub has_number : (held : Option Text) (option : Text) (usual : Option Text) (parser : ValueParser) (words : List Text) (n : ℕ)
     → (s : Says option usual parser words n) → held ≡ value_or usual (given_value s.given) → IsSomeAnd held (λ text. Writes text n)
 has_number held option usual parser words n s is = subst (λ h. IsSomeAnd h (λ text. Writes text n)) (sym (is ∙ s.text_is)) s.writes
@@ -154,7 +154,7 @@ flag_is Chunked words is = is
 pub chunked_is : (c : List Rule) → arg_by_long c (codes "chunked") ≡ Some (filled chunked_rule) → IsFlag c (filled chunked_rule) (codes "--chunked") (codes "chunked")
 chunked_is c by_long = record { dashes = refl; long = refl; by_long = by_long; takes = refl }
 
--- the flag before all other options
+-- the arguments begin with the flag `--chunked`, or without it
 pub reaches_framing : (s : Shape) → IsFlag s.rules (filled chunked_rule) (codes "--chunked") (codes "chunked") → (framing : Framing)
     → Reaches s (flag_words framing) (rows_flag framing)
 reaches_framing s is Plain = reaches_start s
@@ -177,7 +177,7 @@ pub limit_is : (c : List Rule) → arg_by_long c (codes "limit") ≡ Some (fille
 limit_is c by_long by_id =
     record { dashes = refl; long = refl; dashes_joined = λ v. refl; long_joined = λ v. refl; by_long = by_long; by_id = by_id; same = refl; takes = refl; one = refl }
 
--- the rows after `--chunked` and `--limit`
+-- the rows of the matches after `--chunked` and `--limit`
 abbrev pub rows_limit : Framing → Option Text → List Row
 rows_limit framing v = used_value (filled limit_rule) v (rows_flag framing)
 
@@ -186,7 +186,7 @@ limit_usable framing None fits = tt
 limit_usable Plain (Some v) fits = simp fits refl
 limit_usable Chunked (Some v) fits = simp fits refl
 
--- the arguments that give the limit
+-- the arguments that give `--limit` this number, or leave out the option for the default
 abbrev pub SaysLimit : List Text → ℕ → Type 0
 SaysLimit = Says (codes "--limit") usual_limit limit_parser
 
@@ -198,12 +198,12 @@ says_limit words limit says range = says_usually MIN_RECORD_LIMIT MAX_RECORD_LIM
 abbrev pub most_parser : ValueParser
 most_parser = number_parser MIN_CHUNK MAX_CHUNK
 
--- the text of `--most` is the size, or there is none
+-- the text of `--most` writes the chunk size; without a size the option has no text
 abbrev IsSize : Option Text → Option ℕ → Type 0
 IsSize held None = held ≡ None
 IsSize held (Some most) = IsSomeAnd held (λ text. Writes text most)
 
--- the arguments that give the size, or leave it out
+-- the arguments that give `--most` this chunk size; without a size they leave out the option
 pub record SaysMost (words : List Text) (most : Option ℕ) : Type 0 where
   pub given : Given
   pub is : words ≡ given_words (codes "--most") given

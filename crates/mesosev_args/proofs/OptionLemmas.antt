@@ -1,4 +1,4 @@
--- What is read from `--chunked` and from `--most`.
+-- The values read from `--chunked` and `--most` are those that the matches have.
 use Rattle.std.proofs.Common.{◌≡◌, ◌<◌, ◌^◌, ◌∙◌, ap, ℕ, Bool, true, false, Option, Some, None, Result, Ok, Err, refl, sym, subst, arith}
 use Rattle.std.specs.Prelude.{◌≤◌, codes}
 use Rattle.std.specs.Str.Parse.{ParsesBool}
@@ -10,9 +10,9 @@ use Rattle.mesosev_args.specs.NamedOptions.{HasMost, IsMost}
 use Rattle.mesosev_args.proofs.NumberLemmas.{FromStr, IsWritten, written_once}
 use Rattle.mes_frame.specs.declared.limits.TheConstants.{MIN_CHUNK, MAX_CHUNK}
 
--- ---- the flag
+-- ---- the flag `--chunked`
 
--- `bool::from_str`
+-- the contract of `bool::from_str`
 abbrev pub BoolFromStr : {E : Type 0} → Text → Result Bool E → Type 0
 BoolFromStr text r = ParsesBool text r
 
@@ -37,9 +37,9 @@ pub flag_unset : (E : Type 0) (f : Found) (r : Option Bool) → ((t : Text) → 
     → (r ≡ Some true → ⊥) → one_of (codes "chunked") (rows_of f) ≡ Some (codes "true") → ⊥
 flag_unset E f r value not is = unset_text E (one_text f (codes "chunked")) r value not (one_text-rows f (codes "chunked") ∙ is)
 
--- ---- the size of a chunk
+-- ---- the chunk size `--most`
 
--- the result of reading `--most`
+-- the type of the result of reading `--most`
 abbrev Tried : Type 0
 Tried = Result (Option ℕ) ParseIntError
 
@@ -62,7 +62,7 @@ tried_err (Some t) r e value is n h fits =
     read.0 (h.0, rw h.1 fits)
 
 module _ (f : Found) (r : Tried) (value : (t : Text) → one_text f (codes "most") ≡ Some t → TriesOne FromStr t r) where
-  -- no value was given
+  -- if no value is read, `--most` has no value
   pub most_absent : r ≡ Ok None → HasMost (rows_of f) None
   most_absent is = sym (one_text-rows f (codes "most")) ∙ tried_none (one_text f (codes "most")) r value is
 
@@ -70,17 +70,17 @@ module _ (f : Found) (r : Tried) (value : (t : Text) → one_text f (codes "most
     written : (n : ℕ) → r ≡ Ok (Some n) → IsWritten n (one_of (codes "most") (rows_of f))
     written n is = subst (IsWritten n) (one_text-rows f (codes "most")) (tried_some (one_text f (codes "most")) r none value n is)
 
-    -- the value is the size
+    -- if a number is read, it is the value of `--most`
     pub most_given : (n size : ℕ) → r ≡ Ok (Some n) → size ≡ n → HasMost (rows_of f) (Some size)
     most_given n size is same = rw same (written n is)
 
-    -- the value is a number out of range
+    -- if the number read is out of range, `--most` has no value in its range, and is not absent
     pub most_out : (n : ℕ) → r ≡ Ok (Some n) → (((MIN_CHUNK ≤ n) × (n ≤ MAX_CHUNK)) → ⊥) → ((most : Option ℕ) × HasMost (rows_of f) most × IsMost most) → ⊥
     most_out n is not (None, has, range) = rw has at (written n is)
     most_out n is not (Some m, has, range) =
         let same : m ≡ n = written_once (one_of (codes "most") (rows_of f)) m n has (written n is) in not (rw (← same) range)
 
-    -- the value is not a number
+    -- if an error is read, `--most` has no value in its range, and is not absent
     pub most_unread : (e : ParseIntError) → r ≡ Err e → ((most : Option ℕ) × HasMost (rows_of f) most × IsMost most) → ⊥
     most_unread e is (None, has, range) = let same : r ≡ Ok None = none (one_text-rows f (codes "most") ∙ has) in absurd (cc)
     most_unread e is (Some m, has, range) =

@@ -9,12 +9,12 @@ use Rattle.mesosev_args.specs.CommandLine.{command_app}
 use Rattle.mesosev_args.proofs.Subcommands.{IsSubcommand, rows_behind, taken_behind}
 use Rattle.mesosev_args.proofs.Walks.{Reaches, end_fault, reaches_good, reaches_rows}
 
--- the arguments are accepted, and name this subcommand with these rows
+-- clap accepts the arguments, which name this subcommand; its matches have these rows
 pub record Takes (words : List Text) (name : Text) (rows : List Row) : Type 0 where
   pub named : subcommand_of command_app words ≡ Some (name, rows)
   pub taken : fault_of command_app words ≡ []
 
--- the arguments after a subcommand's name, up to their end
+-- arguments that the subcommand accepts are accepted after the program's and subcommand's names
 pub takes_words : (program name : Text) (s : Shape) → IsSubcommand (built command_app) name s → (words : List Text) (rows : List Row)
     → Reaches s words rows → end_fault s rows ≡ [] → Takes (program ∷ name ∷ words) s.name (fold with_default rows s.rules)
 unfolding clap_on_literals

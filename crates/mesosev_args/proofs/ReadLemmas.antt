@@ -1,4 +1,4 @@
--- What is read from the matches of the arguments is what the arguments name.
+-- The options read from clap's matches of the arguments are those that the arguments name.
 use Rattle.std.proofs.Common.{◌≡◌, ◌⊎◌, List, [], inl, inr, Option, Some, None, Result, Ok, Err, sym, subst}
 use Rattle.std.specs.Prelude.{Box, IfErr, IfOk, IsSomeAnd, codes, option_map}
 use Rattle.std.specs.Box.{box_value}
@@ -20,12 +20,12 @@ module _ {Z : Type 0} where
   both_of None name rows is has = absurd (cc)
   both_of (Some b) name rows is has = cc
 
--- the subcommand's name, and its rows
+-- the matches have the subcommand's name and the rows of its own matches
 pub subcommand_read : (m : ArgMatches) (name : Text) (rows : List Row) → Some name ≡ subcommand_name_of m
     → Some rows ≡ option_map (λ p. p.1) (subcommand_rows_of m) → subcommand_rows_of m ≡ Some (name, rows)
 subcommand_read m name rows is has = both_of (out-ArgMatches m).subcommand name rows is has
 
--- arguments that name this subcommand
+-- for arguments that name this subcommand with these matches
 module _ (words : List Text) (read : Text × List Row) (is : subcommand_of command_app words ≡ Some read) where
   pub read_named : (r : Result Options WordsFault) → Reads read r → IfOk r (NameOptions words)
   read_named (Ok o) reads = subst (λ met. IsSomeAnd met (λ m. IsReadAs m o)) (sym is) reads.0

@@ -1,4 +1,5 @@
--- The arguments of the subcommands that have `--chunked` and `--limit` only: `check` and `show`.
+-- Arguments of `check` and `show`, which have `--chunked` and `--limit` only, are accepted in the
+-- usual spelling, and give the values that they name.
 use Rattle.std.proofs.Common.{◌≡◌, ◌++◌, ◌∙◌, ap, subst, sym, ℕ, List, [], ◌∷◌, Option, Some, None, refl}
 use Rattle.std.specs.Prelude.{codes, fold}
 use Rattle.clap.specs.Words.{Row, Rule, Text, one_of}
@@ -14,7 +15,7 @@ use Rattle.mesosev_args.proofs.Subcommands.{IsSubcommand, leaf_shape}
 use Rattle.mesosev_args.proofs.ParsedArgs.{Takes, takes_words}
 use Rattle.mesosev_args.proofs.Walks.{Reaches, end_fault, given_value, given_words, reaches_option}
 
--- the arguments, built
+-- the rules of the subcommand's arguments, as clap builds them
 abbrev rules : List Rule
 rules = filled_from 1 (chunked_rule ∷ limit_rule ∷ help_rule ∷ version_rule ∷ [])
 
@@ -38,7 +39,7 @@ good_end name Plain (Some v) = refl
 good_end name Chunked None = refl
 good_end name Chunked (Some v) = refl
 
--- the arguments are accepted, and have the values
+-- clap accepts the arguments, and the matches have these values
 pub record SaidReading (words : List Text) (name : Text) (framing : Framing) (limit : ℕ) : Type 0 where
   pub rows : List Row
   pub takes : Takes words name rows

@@ -1,4 +1,5 @@
--- Arguments in their plain form name exactly these options, and are accepted.
+-- Arguments in the usual order and spelling (`SayPlainly`) are accepted, and name exactly the
+-- options that they spell.
 use Rattle.std.proofs.Common.{◌≡◌, List, [], Result, Ok, Err, refl, sym, subst}
 use Rattle.std.specs.Prelude.{IfErr, IfOk, IsSomeAnd, MatchResult, codes}
 use Rattle.clap.specs.Words.{IsAmong, Row, Text, fault_of, kind_of, subcommand_of}
@@ -31,7 +32,7 @@ replay_is = record { met = refl; found = refl; other = refl }
 relog_is : IsSubcommand (built command_app) (codes "relog") (log_shape (codes "relog"))
 relog_is = record { met = refl; found = refl; other = refl }
 
--- the arguments are accepted, and name the options
+-- clap accepts the arguments, and they name the options
 record Names (words : List Text) (o : Options) : Type 0 where
   named : NameOptions words o
   taken : fault_of command_app words ≡ []
@@ -62,7 +63,7 @@ plain_names words (Subscribe to user name reads) says range =
 plain_names words (Loopback most) says range =
     let s = said_loopback words most says range in names words (codes "loopback") s.rows (Loopback most) s.takes (refl, s.most_has)
 
--- a result that the arguments name, or an error for them, is that of their plain form
+-- for arguments in the usual spelling the result is the options spelt, unless memory runs out
 pub plain_answer : (words : List Text) (r : Result Options WordsFault) → IfOk r (NameOptions words) → IfErr r (RefusesArgs words)
     → (said : Options) → SayPlainly words said → IsInRange said → MatchResult r (λ o. o ≡ said) (λ fault. fault ≡ NoMemory)
 plain_answer words (Ok o) named refused said plainly range =

@@ -1,4 +1,4 @@
--- The arguments of `serve`.
+-- Arguments of `serve` in the usual spelling are accepted, and give the values that they name.
 use Rattle.std.proofs.Common.{◌≡◌, ◌++◌, ◌∙◌, ap, append_assoc, subst, sym, ℕ, List, [], ◌∷◌, Option, Some, None, false, refl, arith, inl, inr}
 use Rattle.std.specs.Prelude.{IsSomeAnd, codes, fold}
 use Rattle.clap.specs.Words.{Row, Rule, Text, first_of, one_of}
@@ -15,7 +15,7 @@ use Rattle.mesosev_args.proofs.Subcommands.{IsSubcommand, leaf_shape}
 use Rattle.mesosev_args.proofs.ParsedArgs.{Takes, takes_words}
 use Rattle.mesosev_args.proofs.Walks.{Given, IsNoFlag, IsOption, IsUsable, Reaches, absent, end_fault, given_value, given_words, reaches_option, reaches_start, used_value}
 
--- the arguments, built
+-- the rules of the subcommand's arguments, as clap builds them
 abbrev rules : List Rule
 rules = filled_from 1 (port_rule ∷ count_rule ∷ stream_rule ∷ help_rule ∷ version_rule ∷ [])
 
@@ -34,7 +34,7 @@ count_is = record { dashes = refl; long = refl; dashes_joined = λ v. refl; long
 stream_is : IsOption rules (filled stream_rule) (codes "--stream") (codes "stream")
 stream_is = record { dashes = refl; long = refl; dashes_joined = λ v. refl; long_joined = λ v. refl; by_long = refl; by_id = refl; same = refl; takes = refl; one = refl }
 
--- ---- the rows after each option
+-- ---- the rows of clap's matches, one for each option, after each option
 
 abbrev rows_port : Text → List Row
 rows_port p = used (filled port_rule) (p ∷ []) []
@@ -73,7 +73,7 @@ good_end p c (Some v) = refl
 
 -- ---- `--stream`
 
--- the arguments give the id, or leave it out
+-- the arguments give `--stream` this id, or leave out the option for the default id
 record SaysStream (words : List Text) (stream : List ℕ) : Type 0 where
   given : Given
   is : words ≡ given_words (codes "--stream") given
@@ -91,7 +91,7 @@ says_stream words stream (inr (text, says, parses)) =
       parses = subst (λ (v : Option Text). IsSomeAnd (value_or (Some DEFAULT_STREAM.now) v) (λ t. parsed t ≡ Some stream)) (sym g.value_is) parses;
     }
 
--- the arguments are accepted, and have the values
+-- clap accepts the arguments, and the matches have these values
 pub record SaidServe (words : List Text) (port count : ℕ) (stream : List ℕ) : Type 0 where
   pub rows : List Row
   pub takes : Takes words (codes "serve") rows

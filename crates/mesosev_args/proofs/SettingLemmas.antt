@@ -1,5 +1,5 @@
--- A subcommand whose options are in range has good values; so if one value is not good, no options
--- fit.
+-- If the options of a subcommand are in range, the value of each is good (`IsGood`). So if one
+-- value is not good, the matches are those of no options in range.
 use Rattle.std.proofs.Common.{◌≡◌, ◌∙◌, ap, ℕ, List, true, inl, inr, refl, sym, subst}
 use Rattle.std.specs.Prelude.{codes}
 use Rattle.std.specs.List.{list_any}
@@ -14,7 +14,7 @@ use Rattle.mesosev_args.specs.declared.args.WordsFault.TheVariants.{Clap, BadVal
 use Rattle.std.specs.Prelude.{Result, Err, Ok}
 use Rattle.mesosev_args.proofs.NamedOnce.{read_by}
 
--- the options of this subcommand are in range
+-- some options in range give this subcommand and these matches
 abbrev Has : Text → List Row → Type 0
 Has name rows = (o : Options) × IsReadAs (name, rows) o × IsInRange o
 
@@ -57,7 +57,7 @@ module _ (rows : List Row) where
   loopback_good (o, named, range) =
       let (m, is, hm) = read_by (codes "loopback", rows) o named in (m, hm, subst IsInRange is range)
 
--- an error for a setting that this subcommand has, and that is good if its options are in range
+-- an error for a setting that this subcommand has meets the contract of reading the options
 pub bad_read : (name : Text) (rows : List Row) (s : Setting) (fault : WordsFault) (r : Result Options WordsFault) → r ≡ Err fault
     → list_any (bytes_eq name) (subcommands_with s) ≡ true → (Has name rows → IsGood s rows) → IsBad s rows fault → Reads (name, rows) r
 bad_read name rows s fault r is has good bad = subst (Reads (name, rows)) (sym is) (read_of fault bad)
@@ -67,7 +67,7 @@ bad_read name rows s fault r is has good bad = subst (Reads (name, rows)) (sym i
     read_of (BadValue option) bad = (inl (record { setting = s; has = has; is = bad.0; lacks = bad.1 }), λ h. bad.1 (good h))
     read_of NoMemory bad = absurd bad
 
--- the same for the texts of `subscribe`, which are allocated
+-- like `bad_read`, but for the texts of `subscribe`, whose allocation may fail
 pub bad_text : (rows : List Row) (s : Setting) (fault : WordsFault) (r : Result Options WordsFault) → r ≡ Err fault
     → list_any (bytes_eq (codes "subscribe")) (subcommands_with s) ≡ true → (Has (codes "subscribe") rows → IsGood s rows) → IsBadOrLacks s rows fault
     → Reads (codes "subscribe", rows) r

@@ -1,4 +1,5 @@
--- The arguments up to a subcommand's name in clap's model: those after it belong to the subcommand.
+-- The arguments up to a subcommand's name in clap's model. The arguments after the name belong to
+-- the subcommand.
 use Rattle.std.proofs.Common.{◌≡◌, ◌++◌, ◌∙◌, ap, append_assoc, append-nil, sym, List, [], ◌∷◌, Some, false, true, refl}
 use Rattle.std.specs.Prelude.{◌&&◌, codes, find, fold, not}
 use Rattle.std.specs.Str.{bytes_eq}
@@ -20,15 +21,15 @@ unfolding walked walk_fault
 quiet_on s names w p [] = refl
 quiet_on s names w p (word ∷ rest) = quiet_on s names w (p.0, p.1 ++ word ∷ []) rest
 
--- the position of the walk after the subcommand's name
+-- the state of the walk over the arguments after the subcommand's name
 abbrev met : Text → List Text → Walk
 met name rest = record { held = nothing_held; waiting = idle; position = 1; is_trailing = false; stopped = Some (name, rest) }
 
--- a subcommand with these arguments, built, with the version of the command above it
+-- a subcommand with these rules of arguments, as clap builds it, with the version of `mesosev`
 abbrev pub leaf_shape : Text → List Rule → Shape
 leaf_shape name rules = record (new_shape name) { rules = rules; disable_help_subcommand = true; is_built = true; propagate_version = true; has_version = true }
 
--- the name is that of this subcommand of a built command
+-- the name is that of this subcommand of a command that clap has built
 pub record IsSubcommand (b : App) (name : Text) (s : Shape) : Type 0 where
   pub met : subcommand_met (names_of b) idle name ≡ Some name
   pub found : find (λ s. answers_to name (label_of s)) b.subs ≡ Some s
@@ -47,10 +48,10 @@ module _ (b : App) (name : Text) (s : Shape) (is : IsSubcommand b name s) (rest 
   pub rows_behind : entered b (walk b.top.rules (names_of b) nothing_held (name ∷ rest)).stopped ≡ Some (s.name, rows_after s.rules [] rest)
   rows_behind = ap (λ (w : Walk). entered b w.stopped) top_walk ∙ simp (is.found) refl
 
-  -- what the command itself rejects after the arguments
+  -- the errors of the command itself at the end of the arguments
   abbrev pub top_end : Kinds
   top_end = or_else (defaults_fault [] b.top.rules) (check_fault b.top (fold with_default [] b.top.rules) true)
 
-  -- what the subcommand accepts is accepted
+  -- if the subcommand accepts the arguments after its name, the command accepts all arguments
   pub taken_behind : level_fault s [] nothing_held rest false [] ≡ [] → top_end ≡ [] → built_fault b nothing_held (name ∷ rest) ≡ []
   taken_behind good ends = simp (top_quiet, top_walk, is.found, good, ends) refl

@@ -1,4 +1,4 @@
--- The arguments of `subscribe`.
+-- Arguments of `subscribe` in the usual spelling are accepted, and give the values that they name.
 use Rattle.std.proofs.Common.{◌≡◌, ◌++◌, ◌∙◌, ap, append_assoc, subst, sym, ℕ, List, [], ◌∷◌, Option, Some, None, false, refl, arith, inl, inr}
 use Rattle.std.specs.Prelude.{IsSomeAnd, codes, fold}
 use Rattle.clap.specs.Words.{Row, Rule, Text, first_of, one_of}
@@ -14,7 +14,7 @@ use Rattle.mesosev_args.proofs.Subcommands.{IsSubcommand, leaf_shape}
 use Rattle.mesosev_args.proofs.ParsedArgs.{Takes, takes_words}
 use Rattle.mesosev_args.proofs.Walks.{IsOption, IsUsable, Reaches, end_fault, given_value, given_words, reaches_option, reaches_start, used_value}
 
--- the arguments, built
+-- the rules of the subcommand's arguments, as clap builds them
 abbrev rules : List Rule
 rules = filled_from 1 (to_rule ∷ user_rule ∷ name_rule ∷ reads_rule ∷ help_rule ∷ version_rule ∷ [])
 
@@ -36,7 +36,7 @@ name_is = record { dashes = refl; long = refl; dashes_joined = λ v. refl; long_
 reads_is : IsOption rules (filled reads_rule) (codes "--reads") (codes "reads")
 reads_is = record { dashes = refl; long = refl; dashes_joined = λ v. refl; long_joined = λ v. refl; by_long = refl; by_id = refl; same = refl; takes = refl; one = refl }
 
--- ---- the rows after each option
+-- ---- the rows of clap's matches, one for each option, after each option
 
 abbrev rows_to : Text → List Row
 rows_to a = used (filled to_rule) (a ∷ []) []
@@ -73,7 +73,7 @@ unfolding clap_on_literals
 good_end a u n None = refl
 good_end a u n (Some v) = refl
 
--- the arguments are accepted, and have the values
+-- clap accepts the arguments, and the matches have these values
 pub record SaidSubscribe (words : List Text) (to user name : Text) (reads : ℕ) : Type 0 where
   pub rows : List Row
   pub takes : Takes words (codes "subscribe") rows

@@ -1,4 +1,4 @@
--- Consecutive options in their usual spelling in clap's model, at any position.
+-- How clap's model walks over consecutive options in their usual spelling, at any position.
 use Rattle.std.proofs.Common.{◌≡◌, ◌++◌, ◌==◌, ◌∙◌, ap, ℕ, List, [], ◌∷◌, Option, Some, None, Bool, true, false, refl}
 use Rattle.std.specs.Prelude.{fold}
 use Rattle.std.specs.Str.{bytes_eq}
@@ -9,7 +9,7 @@ use Rattle.clap.specs.Kinds.{Kinds, or_else}
 use Rattle.clap.specs.Simple.{Shape}
 use Rattle.clap.specs.Walk.{Names, Walk, arg_by_id, arg_by_long, idle, most_values, nothing_held, rows_after, settled_rows, takes_values, used, walk_from, walked, with_default}
 
--- ---- concatenated arguments
+-- ---- walks over concatenated arguments
 
 pub both_walk : (f : Walk → Text → Walk) (w : Walk) (a b : List Text) → fold f w (a ++ b) ≡ fold f (fold f w a) b
 both_walk f w [] b = refl
@@ -27,13 +27,14 @@ both_fault s names w (x ∷ a) b =
     ap (λ (k : Kinds). or_else (turn_fault s names w x) k) (both_fault s names (walked s.rules names w x) a b)
     ∙ else_else (turn_fault s names w x) (walk_fault s names (walked s.rules names w x) a) (walk_fault s names (fold (walked s.rules names) (walked s.rules names w x) a) b)
 
--- ---- between options
+-- ---- states of the walk between two options
 
--- the rows so far, and the option whose value was the last argument
+-- the state of the walk: the rows so far, and the option whose value was the last argument
 abbrev pub between : List Row → Option (Text × List Text) → Walk
 between rows pending = record { held = record { rows = rows; pending = pending; skip = 0 }; waiting = idle; position = 1; is_trailing = false; stopped = None }
 
--- The subcommand accepts the arguments. Once the pending option is used, its rows are these.
+-- The subcommand accepts the arguments. Once the pending option is used, the rows of the matches
+-- are these.
 pub record Reaches (s : Shape) (words : List Text) (rows : List Row) : Type 0 where
   pub left : List Row
   pub pending : Option (Text × List Text)
@@ -46,7 +47,7 @@ pub reaches_start : (s : Shape) → Reaches s [] []
 unfolding walk_fault
 reaches_start s = record { left = []; pending = None; walk_is = refl; rows_are = refl; settles = refl; quiet = refl }
 
--- arguments that lead from one position between options to another, without an error
+-- if `more` leads from one state between options to another without an error, so do both lists
 reaches_on : (s : Shape) (words more : List Text) (rows next left : List Row) (pending : Option (Text × List Text)) → (r : Reaches s words rows)
     → fold (walked s.rules []) (between r.left r.pending) more ≡ between left pending
     → walk_fault s [] (between r.left r.pending) more ≡ []
@@ -64,7 +65,7 @@ reaches_on s words more rows next left pending r walk_is quiet rows_are settles 
       ∙ ap (λ (w : Walk). walk_fault s [] w more) r.walk_is ∙ quiet;
 }
 
--- ---- one flag
+-- ---- a walk over one flag
 
 -- the argument is this flag of the subcommand
 pub record IsFlag (c : List Rule) (a : Rule) (word name : Text) : Type 0 where
@@ -82,7 +83,7 @@ reaches_flag s a word name is words rows r passes =
     (simp (is.dashes, is.long, is.by_long, is.takes, r.settles, r.rows_are, passes) refl)
     (ap (used a []) r.rows_are) refl
 
--- ---- one option with a value
+-- ---- a walk over one option with a value
 
 -- how arguments give an option a value: not at all, in one argument, or in two
 pub data Given : Type 0 where
@@ -95,13 +96,13 @@ given_words option absent = []
 given_words option (joined x xs) = (option ++ 61 ∷ x ∷ xs) ∷ []
 given_words option (apart x xs) = option ∷ (x ∷ xs) ∷ []
 
--- the given value
+-- the value that the arguments give, if any
 abbrev pub given_value : Given → Option Text
 given_value absent = None
 given_value (joined x xs) = Some (x ∷ xs)
 given_value (apart x xs) = Some (x ∷ xs)
 
--- the rows after a value of the option
+-- the rows of the matches after the option is given a value, or left out
 abbrev pub used_value : Rule → Option Text → List Row → List Row
 used_value a None rows = rows
 used_value a (Some v) rows = used a (v ∷ []) rows
@@ -112,7 +113,7 @@ IsNoFlag None = Unit {0}
 IsNoFlag (Some []) = ⊥
 IsNoFlag (Some (x ∷ xs)) = (x == 45) ≡ false
 
--- the option may be used with the value after these rows
+-- the option may be given this value if the matches have these rows so far
 abbrev pub IsUsable : Bool → Rule → Option Text → List Row → Type 0
 IsUsable again a None rows = Unit {0}
 IsUsable again a (Some v) rows = use_fault again a (v ∷ []) rows ≡ []
@@ -149,11 +150,11 @@ reaches_option s a word name is words rows r (apart x xs) plain passes =
 
 -- ---- the end of the arguments
 
--- what is rejected after the arguments
+-- the errors of the subcommand at the end of the arguments
 abbrev pub end_fault : Shape → List Row → Kinds
 end_fault s rows = or_else (defaults_fault rows s.rules) (check_fault s (fold with_default rows s.rules) false)
 
--- the rows of the subcommand, with the defaults of the options that were not used
+-- the rows of the subcommand's matches: those given, and defaults for the options left out
 pub reaches_rows : (s : Shape) (words : List Text) (rows : List Row) → Reaches s words rows → rows_after s.rules [] words ≡ fold with_default rows s.rules
 reaches_rows s words rows r =
     ap (λ (w : Walk). fold with_default (settled_rows s.rules w.held.pending w.held.rows) s.rules) r.walk_is

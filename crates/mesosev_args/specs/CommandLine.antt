@@ -10,7 +10,7 @@ use Rattle.mesosev_args.specs.declared.args.TheConstants.{DEFAULT_LIMIT, DEFAULT
 use Rattle.mesosev_args.specs.declared.args.TheConstants.{MIN_CONNECTIONS, MAX_CONNECTIONS, MIN_PORT, MAX_PORT, MIN_SUBSCRIBE_READS, MAX_SUBSCRIBE_READS}
 use Rattle.mes_frame.specs.declared.limits.TheConstants.{MIN_CHUNK, MAX_CHUNK, MIN_RECORD_LIMIT, MAX_RECORD_LIMIT}
 
--- the command is this one, without an argument that its subcommands share
+-- the Rust command `c` is `app` in clap's model, and shares no argument with its subcommands
 abbrev pub IsCommand : App → Command → Type 0
 IsCommand app c = (app_of c ≡ app) × ((out-Command c).has_globals ≡ false)
 
@@ -18,7 +18,7 @@ IsCommand app c = (app_of c ≡ app) × ((out-Command c).has_globals ≡ false)
 abbrev pub chunked_rule : Rule
 chunked_rule = record (new_rule (codes "chunked")) { long = Some (codes "chunked"); action = Some SetTrue }
 
--- the option `--NAME N`, for a number from the least to the greatest
+-- the option `--NAME N`, for a number from `least` to `greatest`
 abbrev pub number_rule : Text → ℕ → ℕ → Rule
 number_rule name least most = record (new_rule name) {
   long = Some name;
@@ -30,11 +30,11 @@ number_rule name least most = record (new_rule name) {
 abbrev pub text_rule : Text → Rule
 text_rule name = record (new_rule name) { long = Some name; value_names = 1 }
 
--- a required option
+-- `rule` as a required option of the command line
 abbrev pub wanted : Rule → Rule
 wanted rule = record rule { required = true }
 
--- an option with a default value
+-- `rule` as an option of the command line with a default value
 abbrev pub usually : Text → Rule → Rule
 usually text rule = record rule { defaults = text ∷ [] }
 

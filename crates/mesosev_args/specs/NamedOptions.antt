@@ -33,11 +33,11 @@ HasFraming rows Chunked = one_of (codes "chunked") rows ≡ Some (codes "true")
 abbrev pub HasNumber : Text → List Row → ℕ → Type 0
 HasNumber option rows n = IsSomeAnd (one_of option rows) (λ text. Writes text n)
 
--- the option of this name has this text
+-- the option of this name has this text in a subcommand's matches
 abbrev pub HasText : Text → List Row → Text → Type 0
 HasText option rows text = first_of option rows ≡ Some text
 
--- `--limit` has this value
+-- `--limit` has this value in a subcommand's matches, given or by default
 abbrev pub HasLimit : List Row → ℕ → Type 0
 HasLimit rows limit = HasNumber (codes "limit") rows limit
 
@@ -46,7 +46,7 @@ abbrev pub HasMost : List Row → Option ℕ → Type 0
 HasMost rows None = one_of (codes "most") rows ≡ None
 HasMost rows (Some most) = HasNumber (codes "most") rows most
 
--- `--stream` has this UUID, in any of its text forms
+-- `--stream` has this UUID in a subcommand's matches, in any text form of a UUID
 abbrev pub HasStream : List Row → List ℕ → Type 0
 HasStream rows stream = IsSomeAnd (first_of (codes "stream") rows) (λ text. parsed text ≡ Some stream)
 
@@ -78,7 +78,7 @@ abbrev pub IsMost : Option ℕ → Type 0
 IsMost None = Unit {0}
 IsMost (Some most) = (MIN_CHUNK ≤ most) × (most ≤ MAX_CHUNK)
 
--- the port, the number of connections, the number of reads is in its range
+-- the values of `--port`, `--count` and `--reads` are in their ranges
 abbrev pub IsPort : ℕ → Type 0
 IsPort port = (MIN_PORT ≤ port) × (port ≤ MAX_PORT)
 
@@ -88,7 +88,7 @@ IsCount count = (MIN_CONNECTIONS ≤ count) × (count ≤ MAX_CONNECTIONS)
 abbrev pub IsReads : ℕ → Type 0
 IsReads reads = (MIN_SUBSCRIBE_READS ≤ reads) × (reads ≤ MAX_SUBSCRIBE_READS)
 
--- each value is in its range
+-- each value of the options is in its range
 abbrev pub IsInRange : Options → Type 0
 IsInRange (Check framing limit) = IsLimit limit
 IsInRange (Show framing limit) = IsLimit limit
@@ -103,7 +103,7 @@ IsInRange (Loopback most) = IsMost (Some most)
 abbrev pub NameNoOptions : List Text → Type 0
 NameNoOptions words = ¬ ((o : Options) × NameOptions words o × IsInRange o)
 
--- what an option sets
+-- the settings: what each option of the command line sets
 pub data Setting : Type 0 where
   the_limit : Setting
   the_most : Setting
@@ -116,7 +116,7 @@ pub data Setting : Type 0 where
   the_reads : Setting
   the_size : Setting
 
--- the option's name
+-- the name of the option that sets it
 abbrev pub option_of : Setting → Text
 option_of the_limit = codes "limit"
 option_of the_most = codes "most"
@@ -129,7 +129,7 @@ option_of the_name = codes "name"
 option_of the_reads = codes "reads"
 option_of the_size = codes "most"
 
--- the subcommands that have the option
+-- the subcommands that have the option for this setting
 abbrev pub subcommands_with : Setting → List Text
 subcommands_with the_limit = codes "check" ∷ codes "show" ∷ codes "convert" ∷ codes "replay" ∷ codes "relog" ∷ []
 subcommands_with the_most = codes "convert" ∷ []
@@ -139,7 +139,7 @@ subcommands_with the_count = codes "serve" ∷ []
 subcommands_with the_stream = codes "serve" ∷ []
 subcommands_with _ = codes "subscribe" ∷ []
 
--- the option has a value in its range in a subcommand's matches
+-- the option for this setting has a value in its range in a subcommand's matches
 abbrev pub IsGood : Setting → List Row → Type 0
 IsGood the_limit rows = (limit : ℕ) × HasLimit rows limit × IsLimit limit
 IsGood the_most rows = (most : Option ℕ) × HasMost rows most × IsMost most
@@ -152,7 +152,7 @@ IsGood the_name rows = (name : Text) × HasText (codes "name") rows name
 IsGood the_reads rows = (reads : ℕ) × HasNumber (codes "reads") rows reads × IsReads reads
 IsGood the_size rows = (most : ℕ) × HasNumber (codes "most") rows most × IsMost (Some most)
 
--- the option of this name, which this subcommand has, has no value in its range in the matches
+-- this subcommand has an option of this name, which has no value in its range in the matches
 pub record LacksValue (read : Text × List Row) (option : Text) : Type 0 where
   pub setting : Setting
   pub has : list_any (bytes_eq read.0) (subcommands_with setting) ≡ true
@@ -173,7 +173,7 @@ LackValue words option =
     IsSomeAnd (subcommand_of command_app words) (λ read. LacksValue read option ⊎ IsUnknown read.0 option)
     ⊎ ((subcommand_of command_app words ≡ None) × (option ≡ codes "COMMAND"))
 
--- clap rejects the arguments with such an error, or no options in range fit, or memory ran out
+-- the fault is clap's kind of error for the arguments, a bad value in them, or out of memory
 abbrev pub RefusesArgs : List Text → WordsFault → Type 0
 RefusesArgs words (Clap error) = IsAmong (kind_of error) (fault_of command_app words)
 RefusesArgs words (BadValue option) = (fault_of command_app words ≡ []) × NameNoOptions words × LackValue words option.now
@@ -185,11 +185,11 @@ IsBad setting rows (Clap error) = ⊥
 IsBad setting rows (BadValue option) = (option.now ≡ option_of setting) × ¬ (IsGood setting rows)
 IsBad setting rows NoMemory = ⊥
 
--- as `IsBad`, or its text could not be allocated
+-- like `IsBad`, or the text of the option's value could not be allocated
 abbrev pub IsBadOrLacks : Setting → List Row → WordsFault → Type 0
 IsBadOrLacks setting rows fault = IsBad setting rows fault ⊎ (fault ≡ NoMemory)
 
--- the error names this option, which has no number from the least to the greatest
+-- the error names this option, which has no number from `least` to `greatest`
 abbrev pub LacksNumber : Text → ℕ → ℕ → List Row → WordsFault → Type 0
 LacksNumber name least greatest rows (Clap error) = ⊥
 LacksNumber name least greatest rows (BadValue option) = (option.now ≡ name) × ¬ ((n : ℕ) × HasNumber name rows n × (least ≤ n) × (n ≤ greatest))
@@ -201,20 +201,20 @@ LacksText name rows (Clap error) = ⊥
 LacksText name rows (BadValue option) = (option.now ≡ name) × (first_of name rows ≡ None)
 LacksText name rows NoMemory = ⊥
 
--- the options of a subcommand's matches, each in range; or an error: none fit, or no memory
+-- the result is the options of the matches, in range; or an error: no such options, or no memory
 abbrev pub Reads : Text × List Row → Result Options WordsFault → Type 0
 Reads read (Ok o) = IsReadAs read o × IsInRange o
 Reads read (Err (Clap error)) = ⊥
 Reads read (Err (BadValue option)) = (LacksValue read option.now ⊎ IsUnknown read.0 option.now) × ¬ ((o : Options) × IsReadAs read o × IsInRange o)
 Reads read (Err NoMemory) = read.0 ≡ codes "subscribe"
 
--- the error is clap's; out of memory has a variant of its own
+-- the fault for an error of clap: `Clap` with this error, or `NoMemory` if memory ran out
 abbrev pub IsFaultOf : Error → WordsFault → Type 0
 IsFaultOf error (Clap same) = (same ≡ error) × (kind_of error ≢ OutOfMemory)
 IsFaultOf error (BadValue option) = ⊥
 IsFaultOf error NoMemory = kind_of error ≡ OutOfMemory
 
--- the arguments that give a framing: `--chunked`, or none for plain records
+-- the arguments that give a framing: `--chunked`, or no argument for plain RecordIO
 abbrev pub SayFraming : List Text → Framing → Type 0
 SayFraming words Plain = words ≡ []
 SayFraming words Chunked = words ≡ codes "--chunked" ∷ []
@@ -224,7 +224,7 @@ abbrev pub SayNumber : Text → List Text → ℕ → Type 0
 SayNumber option words n =
     (text : Text) × Writes text n × ((words ≡ option ∷ text ∷ []) ⊎ (words ≡ (option ++ 61 ∷ text) ∷ []))
 
--- as `SayNumber`, or none for the default
+-- like `SayNumber`, or no argument for the default
 abbrev pub SayUsually : Text → Text → List Text → ℕ → Type 0
 SayUsually usual option words n = ((words ≡ []) × Writes usual n) ⊎ SayNumber option words n
 
@@ -237,16 +237,16 @@ BeginsPlainly (x ∷ xs) = (x == 45) ≡ false
 abbrev pub SayText : Text → List Text → Text → Type 0
 SayText option words text = BeginsPlainly text × ((words ≡ option ∷ text ∷ []) ⊎ (words ≡ (option ++ 61 ∷ text) ∷ []))
 
--- the arguments that give the id of a stream, or none for the default
+-- the arguments that give `--stream` this id, or no argument for the default
 abbrev pub SayStream : List Text → List ℕ → Type 0
 SayStream words stream =
     ((words ≡ []) × (parsed DEFAULT_STREAM.now ≡ Some stream)) ⊎ ((text : Text) × SayText (codes "--stream") words text × (parsed text ≡ Some stream))
 
--- the arguments that give the limit, or none for the default
+-- the arguments that give `--limit` this number, or no argument for the default
 abbrev pub SayLimit : List Text → ℕ → Type 0
 SayLimit words limit = SayUsually DEFAULT_LIMIT.now (codes "--limit") words limit
 
--- the arguments that give the chunk size, or none for plain records
+-- the arguments that give `--most` this chunk size, or no argument for plain RecordIO
 abbrev pub SayMost : List Text → Option ℕ → Type 0
 SayMost words None = words ≡ []
 SayMost words (Some most) = SayNumber (codes "--most") words most
@@ -257,35 +257,35 @@ SayReading name words framing limit =
     (program : Text) × (flags : List Text) × (limits : List Text) × SayFraming flags framing × SayLimit limits limit
     × (words ≡ program ∷ name ∷ (flags ++ limits))
 
--- as `SayReading` for `convert`, followed by `--most`
+-- like `SayReading`, but for `convert`, with `--most` last
 abbrev pub SayConvert : List Text → Framing → ℕ → Option ℕ → Type 0
 SayConvert words framing limit most =
     (program : Text) × (flags : List Text) × (limits : List Text) × (sizes : List Text) × SayFraming flags framing
     × SayLimit limits limit × SayMost sizes most × (words ≡ program ∷ codes "convert" ∷ (flags ++ (limits ++ sizes)))
 
--- as `SayReading` for `replay` and `relog`, which have `--limit` only
+-- like `SayReading`, but for `replay` and `relog`, which have `--limit` only
 abbrev pub SayLog : Text → List Text → ℕ → Type 0
 SayLog name words limit = (program : Text) × (limits : List Text) × SayLimit limits limit × (words ≡ program ∷ name ∷ limits)
 
--- as `SayReading` for `serve`: `--port`, `--count`, `--stream`
+-- like `SayReading`, but for `serve`, with `--port`, `--count`, `--stream`
 abbrev pub SayServe : List Text → ℕ → ℕ → List ℕ → Type 0
 SayServe words port count stream =
     (program : Text) × (ports : List Text) × (counts : List Text) × (streams : List Text) × SayNumber (codes "--port") ports port
     × SayNumber (codes "--count") counts count × SayStream streams stream × (words ≡ program ∷ codes "serve" ∷ (ports ++ (counts ++ streams)))
 
--- as `SayReading` for `subscribe`: `--to`, `--user`, `--name`, `--reads`
+-- like `SayReading`, but for `subscribe`, with `--to`, `--user`, `--name`, `--reads`
 abbrev pub SaySubscribe : List Text → Text → Text → Text → ℕ → Type 0
 SaySubscribe words to user name reads =
     (program : Text) × (tos : List Text) × (users : List Text) × (names : List Text) × (numbers : List Text) × SayText (codes "--to") tos to
     × SayText (codes "--user") users user × SayText (codes "--name") names name × SayUsually DEFAULT_SUBSCRIBE_READS.now (codes "--reads") numbers reads
     × (words ≡ program ∷ codes "subscribe" ∷ (tos ++ (users ++ (names ++ numbers))))
 
--- as `SayReading` for `loopback`: `--most`
+-- like `SayReading`, but for `loopback`, with `--most`
 abbrev pub SayLoopback : List Text → ℕ → Type 0
 SayLoopback words most =
     (program : Text) × (sizes : List Text) × SayUsually DEFAULT_LOOPBACK_CHUNK.now (codes "--most") sizes most × (words ≡ program ∷ codes "loopback" ∷ sizes)
 
--- the arguments are the program's name, the subcommand, and its options in order, each at most once
+-- the arguments are the program's name, a subcommand and its options in order, each at most once
 abbrev pub SayPlainly : List Text → Options → Type 0
 SayPlainly words (Check framing limit) = SayReading (codes "check") words framing limit
 SayPlainly words (Show framing limit) = SayReading (codes "show") words framing limit

@@ -10,7 +10,7 @@ use mesosev_stream::ChunkSize;
 use thiserror::Error;
 use uuid::Uuid;
 
-/// The version that `--version` prints after the name.
+/// The version that `--version` prints after the program's name.
 pub const VERSION: &str = "0.1.0";
 
 /// The default of `--limit`, in bytes: `DEFAULT_RECORD_LIMIT`.
@@ -43,7 +43,7 @@ pub const DEFAULT_SUBSCRIBE_READS: &str = "1000000";
 /// The default of `--most` in `loopback`, in bytes.
 pub const DEFAULT_LOOPBACK_CHUNK: &str = "4096";
 
-/// A subcommand with its option values.
+/// A subcommand with the values of its command-line options.
 #[derive(Drop)]
 pub enum Options {
     /// `check [--chunked] [--limit N]`: checks that each record is an event.
@@ -82,11 +82,11 @@ pub enum Options {
     },
     /// `serve --port P --count C [--stream UUID]`: runs a test master for `count` connections.
     Serve {
-        /// The TCP port on which it listens.
+        /// The TCP port on which the master listens.
         port: u16,
-        /// The number of connections that it accepts.
+        /// The number of connections that the master accepts.
         count: u16,
-        /// The id of its first stream.
+        /// The id of the master's first stream.
         stream: Uuid,
     },
     /// `subscribe --to ADDR --user U --name N [--reads R]`: subscribes to a master, and prints its
@@ -114,7 +114,7 @@ pub enum WordsFault {
     /// A usage error, or a request for help. The text is for the user.
     #[error("{0}")]
     Clap(clap::Error),
-    /// The value of the option of this name is out of its range.
+    /// The value of the command-line option with this name is out of its range.
     #[error("bad value --{0}")]
     BadValue(&'static str),
     /// An allocation failed.

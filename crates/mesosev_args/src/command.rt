@@ -18,11 +18,12 @@ use std::convert::AsStr;
 ///
 /// Errors: clap's, for a usage error, for a request for help, and if an allocation fails.
 pub fn matches_of<'a, S: AsStr>(alloc: Global, words: &'a [S]) -> Result<ArgMatches<'a>, Error>
-    // On success: clap accepts the arguments, and the matches are of the subcommand that they name.
+    // On success: clap accepts the arguments, and the matches are those of the subcommand that the
+    // arguments name.
     ensures ok { IfOk result (λ _. fault_of command_app (map S.text words.entry.now) ≡ []) }
     ensures named { IfOk result (λ m.
         subcommand_rows_of m ≡ subcommand_of command_app (map S.text words.entry.now)) }
-    // On error: the kind is that of a usage error in the arguments, or memory ran out.
+    // On error: the kind of the error is that of a usage error in the arguments, or memory ran out.
     ensures err { IfErr result (HasKind (fault_of command_app (map S.text words.entry.now))) }
 {
     let command = command(alloc)?;
@@ -44,7 +45,7 @@ fn command<'a>(alloc: Global) -> Result<Command<'a>, AllocError>
     with(command, loopback::command(alloc))
 }
 
-// Adds the subcommand after the others.
+// Adds a subcommand after those already added.
 fn with<'a>(
     command: Command<'a>,
     subcommand: Result<Command<'a>, AllocError>,

@@ -10,7 +10,7 @@
 //! ```
 //!
 //! `specs/CommandLine.antt` defines the command in clap's model, `specs/NamedOptions.antt` what the
-//! arguments mean. Its mutants are in `wrong-bodies/`.
+//! arguments mean. The crate's mutants are in `wrong-bodies/`.
 
 mod args;
 mod check;

@@ -25,7 +25,7 @@ pub fn command<'a>(alloc: Global) -> Result<Command<'a>, AllocError>
         .arg(usual_most_option(alloc))
 }
 
-// Unlike in `convert`, `--most` has a default here.
+// Returns the option `--most M`, which has a default, unlike that of `convert`.
 fn usual_most_option<'a>(alloc: Global) -> Arg<'a>
     ensures rule { rule_of result ≡ usually DEFAULT_LOOPBACK_CHUNK.now most_rule }
     ensures local { result.global ≡ false }

@@ -19,16 +19,16 @@ use std::convert::AsStr;
 /// Errors: `Clap` for a usage error or a request for help, `BadValue` if a value is out of its
 /// range, `NoMemory`.
 pub fn options<S: AsStr>(alloc: Global, words: &[S]) -> Result<Options, WordsFault>
-    // On success: clap accepts the arguments. They name this subcommand with these values, each in
-    // its range.
+    // On success: clap accepts the arguments. The arguments name the returned subcommand with the
+    // returned values, each in its range.
     ensures ok { IfOk result (λ _. fault_of command_app (map S.text words.now) ≡ []) }
     ensures named { IfOk result (NameOptions (map S.text words.now)) }
     ensures ranged { IfOk result IsInRange }
-    // On error: clap rejects the arguments with an error of this kind, or they name no options in
-    // range, or memory ran out.
+    // On error: clap rejects the arguments with an error of the returned kind, or the arguments
+    // name no options in range, or memory ran out.
     ensures err { IfErr result (RefusesArgs (map S.text words.now)) }
-    // Arguments in their plain form with values in range give exactly these options, unless memory
-    // runs out.
+    // Arguments in the usual order and spelling (`SayPlainly`) with values in range give exactly
+    // the options that they name, unless memory runs out.
     ensures plain { (said : Options) → SayPlainly (map S.text words.now) said → IsInRange said
         → MatchResult result (λ o. o ≡ said) (λ fault. fault ≡ WordsFault.NoMemory) }
 {

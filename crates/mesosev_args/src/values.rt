@@ -1,4 +1,4 @@
-//! Option values read from clap's matches of a subcommand.
+//! Values of command-line options, read from clap's matches of a subcommand.
 ghost use Rattle.std.specs.Prelude.{◌≤◌, IfOk, IfErr};
 ghost use Rattle.clap.specs.Words.{found_of, rows_of};
 ghost use Rattle.mesosev_args.specs.NamedOptions.{HasFraming, HasLimit, HasMost, HasNumber, HasText, IsBad};
@@ -22,7 +22,7 @@ pub fn framing_of(matches: &ArgMatches<'_>) -> Framing
 
 /// Returns the value of the option `name`, from `least` to `greatest`.
 ///
-/// Errors: `BadValue` if there is no such value.
+/// Errors: `BadValue` if the option has no value in this range.
 pub fn number_in(
     matches: &ArgMatches<'_>,
     name: &'static str,
@@ -42,7 +42,7 @@ pub fn number_in(
 
 /// Returns the text of the option `name`.
 ///
-/// Errors: `BadValue` if the option has none.
+/// Errors: `BadValue` if the option has no text.
 pub fn text_of<'a>(matches: &ArgMatches<'a>, name: &'static str) -> Result<&'a str, WordsFault>
     ensures ok { IfOk result (λ text. HasText name.now (rows_of (found_of matches.now)) text.now) }
     ensures err { IfErr result (LacksText name.now (rows_of (found_of matches.now))) }
@@ -55,7 +55,7 @@ pub fn text_of<'a>(matches: &ArgMatches<'a>, name: &'static str) -> Result<&'a s
 
 /// Returns the value of `--limit`.
 ///
-/// Errors: `BadValue` if no value is in its range.
+/// Errors: `BadValue` if the option has no value in its range.
 pub fn limit_of(matches: &ArgMatches<'_>) -> Result<Limit, WordsFault>
     ensures ok { IfOk result (HasLimit (rows_of (found_of matches.now))) }
     ensures ranged { IfOk result IsLimit }

@@ -1,4 +1,4 @@
--- A handle owns what a box of a decoder owns.
+-- A `Handle` owns the same memory as a `Box` of a decoder.
 use mir.Syntax.{impl, tnil, dnil}
 use mathlib.Core.List.{[]}
 use denote.Signature.{Slot, plain}

@@ -1,4 +1,4 @@
--- Many events, reported one by one.
+-- Lemmas about the loop of `many`, which reports the events of a piece one by one.
 use Rattle.std.proofs.Common.{◌≡◌, ℕ, ◌+◌, ◌-◌, ◌<◌, ◌≤◌, List, [], ◌∷◌, ◌++◌, length, take, drop, map, refl, sym, ◌∙◌, ap, subst, arith, append_assoc, append-nil, zero-add, length-append, length-take-le, Bool, true, false, inl, inr}
 use Rattle.std.proofs.Math.ListN.{set}
 use Rattle.std.proofs.Math.Seq.{take-append_seam, drop-append-add}
@@ -24,7 +24,7 @@ use Rattle.mesosev_c.specs.declared.text_decoder.Reported.{Reported}
 use Rattle.mesosev_c.proofs.NumberLemmas.{number_most}
 use Rattle.mesosev_c.proofs.RowLemmas.{row_at, set_seam, texts_more, rows_more, length-rows}
 
--- ---- one more call
+-- ---- `ReportsEach` after one more call of `next`
 
 pub each_more : (texts : Bool) (events : List Reporting) (old mid new : EventDecoder) (piece : List ℕ) (used more : ℕ) (one : Reporting)
     → ReportsEach texts old mid piece used events → IsEvent one.reported.status → ReportsStep texts mid new (drop used piece) more one.reported one.text → ReportsEach texts old new piece (used + more) (events ++ one ∷ [])
@@ -41,7 +41,7 @@ each_more texts (e ∷ es) old mid new piece used more one (between, first, rest
       (subst (λ (ys : List ℕ). ReportsStep texts mid new ys more one.reported one.text) (ap (λ n. drop n piece) by ∙ sym (drop-drop rest first piece)) step),
 )
 
--- ---- the same events without their texts
+-- ---- the reports of the events after their texts were lost
 
 abbrev pub without : Reporting → Reporting
 without one = record { reported = record { status = NO_TEXT; kind = one.reported.kind }; text = [] }
@@ -83,9 +83,9 @@ rows_without start (e ∷ es) = let row : Row = without_text (row_at start e) in
 row_same : {kind kind' start start' size size' : ℕ} → kind ≡ kind' → start ≡ start' → size ≡ size' → let one : Row = record { kind = kind; start = start; size = size } in let other : Row = record { kind = kind'; start = start'; size = size' } in one ≡ other
 row_same e f g = cc
 
--- ---- a loop over the piece
+-- ---- `BatchSoFar`: the loop's invariant
 
--- these events were reported for this number of bytes
+-- the first `used` bytes of the piece gave `count` events, described in the first rows
 pub record BatchSoFar (texts : Bool) (old now : EventDecoder) (text piece : List ℕ) (before after : List Row) (used count : ℕ) : Type 0 where
   pub events : List Reporting
   pub each : ReportsEach texts old now piece used events
@@ -116,7 +116,7 @@ module _ (texts : Bool) (old mid new : EventDecoder) (text grown piece : List �
       ap (λ rs. drop (count + 1) rs) h.rows ∙ ap (λ n. drop n (rows_of 0 h.events ++ drop count before)) (sym at)
       ∙ drop-append-add (rows_of 0 h.events) (drop count before) 1 ∙ drop-drop 1 count before
 
-  -- the rows of the events and of one more, followed by the rest of the rows
+  -- the caller's rows after one more event: a row for each event, then the unused rows
   laid : (events : List Reporting) (one : Reporting) (others : List Row) (row : Row) → others ≡ rows_of 0 events → row ≡ row_at (0 + length (texts_of events)) one
       → after ≡ others ++ row ∷ drop (count + 1) rows → after ≡ rows_of 0 (events ++ one ∷ []) ++ drop (count + 1) before
   laid events one others row same this is =
@@ -163,7 +163,7 @@ module _ (texts : Bool) (old mid new : EventDecoder) (text grown piece : List �
   so_far_more now kept same keeps a =
       subst (λ (d : EventDecoder). BatchSoFar texts old d grown piece before after (used + more) (count + 1)) (sym keeps) (so_far_adds (subst (λ (b : Bool). AddsEvent b event text grown count rows after) same a))
 
--- ---- one more text
+-- ---- the text of one more event
 
 pub adds_none : (texts : Bool) (event : Event) (text : List ℕ) (rows : List Row) (at : ℕ) → texts ≡ false → at ≡ length text → AddsText texts event text text rows rows at
 adds_none texts event text rows at is start =
@@ -189,7 +189,7 @@ adds_event texts event old new count before others at kind size inside kind_is s
     let many : length others ≡ count = length-keeps texts event old new (take count before) others at a ∙ length-take-le count before (omega arith) in
     record { at = at; others = others; adds = a; rows = set_seam others before count _ many inside ∙ ap (λ row. others ++ row ∷ drop (count + 1) before) (row_same kind_is refl size_is) }
 
--- ---- the end
+-- ---- results without an event, and the end of the loop
 
 no_event : (answer : Decoded Event Fault) (status : ℕ) → ((event : Event) → answer ≡ out.Event event → ⊥) → HasStatus answer status → IsEvent status → ⊥
 no_event out.More status none is event = not_more status event is

@@ -1,4 +1,5 @@
--- The effect of a piece on a decoder follows from that on its reader.
+-- The effect of a piece on an `EventDecoder` follows from its effect on the decoder's
+-- `StreamReader`.
 use Rattle.std.proofs.Common.{◌≡◌, ◌≢◌, ℕ, ◌+◌, ◌<◌, ◌≤◌, List, ◌++◌, length, take, refl, ◌∙◌, arith, length-append, length-take-le, None, Some}
 use Rattle.mes_msg.specs.Event.{Event}
 use Rattle.mes_msg.specs.Events.{Spells}
@@ -27,7 +28,7 @@ ends_by : (end : StreamEnd) → EndsBy (Some end) (answer_of end)
 ends_by Closed = refl
 ends_by (Failed fault) = refl
 
--- after an end it is returned again
+-- after the end or an error of the stream, `next` returns it again and uses no byte
 ended : (used : ℕ) (end : StreamEnd) (piece : List ℕ) → let d : EventDecoder = record { state = state.Ended end; used = used } in Takes d d piece 0 (answer_of end)
 ended used end piece = record {
   says = λ framing limit w events s. absurd s.0;
@@ -43,7 +44,7 @@ ended used end piece = record {
 pub takes_ended : (used : ℕ) (end : StreamEnd) (piece : List ℕ) (answer : Decoded Event Fault) → answer ≡ answer_of end → let d : EventDecoder = record { state = state.Ended end; used = used } in Takes d d piece 0 answer
 takes_ended used end piece answer is = rw is (ended used end piece)
 
--- the result while the bytes are counted
+-- the meaning of a result, if the decoder also counts the bytes of the stream
 says_counted : (framing : Framing) (S : List ℕ → List Event → Type 0) (limit : ℕ) (w piece : List ℕ) (events : List Event) (used total : ℕ) (answer : Decoded Event Fault) → total ≡ saturated (length (w ++ take used piece))
     → SaysIn framing S Spells IsEventRefusal 0 limit w events piece used answer → SaysIn framing (λ v vs. S v vs × (total ≡ saturated (length v))) Spells IsEventRefusal 0 limit w events piece used answer
 says_counted framing S limit w piece events used total out.More count h = (h, count)
@@ -51,7 +52,7 @@ says_counted framing S limit w piece events used total (out.Event event) count h
 says_counted framing S limit w piece events used total out.End count h = h
 says_counted framing S limit w piece events used total (out.Fault fault) count h = h
 
--- the result after the stream has ended
+-- the meaning of a result that ends the stream, which does not depend on the state after it
 says_last : (framing : Framing) (S T : List ℕ → List Event → Type 0) (limit : ℕ) (w piece : List ℕ) (events : List Event) (used : ℕ) (end : StreamEnd) (answer : Decoded Event Fault) → EndsBy (Some end) answer
     → SaysIn framing S Spells IsEventRefusal 0 limit w events piece used answer → SaysIn framing T Spells IsEventRefusal 0 limit w events piece used answer
 says_last framing S T limit w piece events used end out.More by h = let clash : Some end ≡ None = by in absurd (cc)

@@ -1,4 +1,4 @@
--- A whole input, read record by record.
+-- Lemmas about the loop of `check_whole`, which reads a whole input record by record.
 use Rattle.std.proofs.Common.{◌≡◌, ℕ, ◌+◌, ◌-◌, ◌<◌, ◌≤◌, List, [], ◌∷◌, ◌++◌, length, take, drop, refl, sym, ◌∙◌, subst, arith, length-append, length-drop, length-take-le, take-append-drop, take_all, Result, Ok, Err, inl, inr}
 use Rattle.std.proofs.Math.Seq.{take-add}
 use Rattle.std.specs.Prelude.{slice_index}
@@ -21,7 +21,7 @@ use Rattle.mesosev_c.specs.Inputs.{IsInput, EndsAll}
 abbrev pub Going : StreamReader EventReader → Framing → ℕ → List ℕ → List Event → Type 0
 Going stream framing limit w events = StreamRepresents HoldsData Spells 0 stream framing limit w events
 
--- the first bytes of an input were used, and their events counted
+-- the first `at` bytes of an input were used, and `count` is the number of their events
 pub record Counting (framing : Framing) (limit : ℕ) (bytes : List ℕ) (stream : StreamReader EventReader) (at count : ℕ) : Type 0 where
   pub within : at ≤ length bytes
   pub events : List Event
@@ -50,12 +50,12 @@ module _ (framing : Framing) (limit : ℕ) (bytes : List ℕ) where
       counted = let counted = h.counted in is ∙ omega (arith, counted, length-append h.events (event ∷ []));
     }
 
-    -- a byte ends the stream
+    -- the outcome if the stream ends at a byte of the input
     pub ends_amid : EndsIn framing Spells limit (take at bytes ++ take used (drop at bytes)) h.events → IsInput framing limit bytes h.events (Ok (at + used))
     ends_amid ends =
         inr (let low = h.within in omega (arith, inside, low, length-drop at bytes), subst (λ (w : List ℕ). EndsIn framing Spells limit w h.events) (sym (take-add at used bytes)) ends)
 
-    -- a byte stops the reading
+    -- the outcome if an error is detected at a byte of the input
     pub stops_amid : (fault : Fault) → 0 < used → GoesIn framing Spells limit (take at bytes ++ take (used - 1) (drop at bytes)) h.events
         → ByteStopsIn framing Spells IsEventRefusal 0 limit (take at bytes ++ take (used - 1) (drop at bytes)) h.events (slice_index (drop at bytes) (used - 1)) fault
         → IsInput framing limit bytes h.events (Err (record { fault = fault; used = at + used }))
@@ -65,7 +65,7 @@ module _ (framing : Framing) (limit : ℕ) (bytes : List ℕ) where
         (subst (λ (w : List ℕ). StopsWithin framing Spells IsEventRefusal 0 limit w h.events fault (length (take at bytes) + used)) (take-append-drop at bytes)
         (stops_at framing Spells IsEventRefusal nothing_ahead limit (take at bytes) (drop at bytes) h.events fault used some inside live stops)))
 
-  -- the input ends
+  -- the outcome if the input ends first
   pub ends_all : (stream : StreamReader EventReader) (at count : ℕ) (h : Counting framing limit bytes stream at count) (outcome : Result ℕ Stop) → length bytes ≤ at
       → EndsAll framing limit (take at bytes) h.events (length bytes) outcome → IsInput framing limit bytes h.events outcome
   ends_all stream at count h outcome past ends = inl (subst (λ (w : List ℕ). EndsAll framing limit w h.events (length bytes) outcome) (take_all at bytes past) ends)

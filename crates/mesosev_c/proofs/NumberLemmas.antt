@@ -1,4 +1,4 @@
--- The numbers of faults.
+-- The number of each error is at most 16.
 use Rattle.std.proofs.Common.{◌≤◌, lit≤}
 use Rattle.mes_frame.specs.declared.fault.FrameFault.TheVariants.{BadChunkLine, ChunkLineTooLong, ChunkTooLarge, BadChunkEnd, TrailersTooLong, BadSizeLine, SizeLineTooLong, RecordTooLarge}
 use Rattle.mes_stream.specs.declared.fault.Fault.{Fault}

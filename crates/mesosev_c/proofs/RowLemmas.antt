@@ -1,4 +1,4 @@
--- Rows that describe events.
+-- Lemmas about the caller's rows that describe events.
 use Rattle.std.proofs.Common.{◌≡◌, ℕ, ◌+◌, ◌<◌, suc, List, [], ◌∷◌, ◌++◌, length, take, drop, map, get_or, refl, sym, ◌∙◌, ap, arith, append_assoc, append-nil, length-append, length-take-le, add-one}
 use Rattle.std.specs.Prelude.{slice_index_or, slice_set}
 use Rattle.std.proofs.Math.ListN.{set}
@@ -7,7 +7,7 @@ use Rattle.std.proofs.lemmas.List.{length-map, map-append, take_more}
 use Rattle.mesosev_c.specs.Rows.{Reporting, texts_of, rows_of, without_text}
 use Rattle.mesosev_c.specs.declared.rows.Row.{Row}
 
--- ---- what follows a front of n items
+-- ---- lists whose first n items are replaced: item n
 
 seam : {A : Type 0} (front xs : List A) (n : ℕ) (d : A) → n < length xs → front ++ drop n xs ≡ front ++ get_or xs n d ∷ drop (suc n) xs
 seam front xs n d inside = ap (λ ys. front ++ ys) (drop-cons xs n d inside)
@@ -22,7 +22,7 @@ get_seam front xs n d is inside =
     ap (λ ys. get_or ys n d) (seam front xs n d inside) ∙ ap (λ k. get_or (front ++ get_or xs n d ∷ drop (suc n) xs) k d) (sym is)
     ∙ get_or-append_seam front (get_or xs n d) (drop (suc n) xs) d
 
--- ---- one more row without its text
+-- ---- one more row loses its text
 
 module _ (rows : List Row) (n : ℕ) (d : Row) (inside : n < length rows) where
   front_is : length (map without_text (take n rows)) ≡ n

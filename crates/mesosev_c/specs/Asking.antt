@@ -8,22 +8,22 @@ use Rattle.mesosev_c.specs.declared.option_numbers.BadOption.{BadOption}
 use Rattle.mesosev_c.specs.declared.option_numbers.BadOption.TheVariants as refused
 use Rattle.mesosev_c.specs.Numbers.{BAD_LIMIT, BAD_FRAMING}
 
--- the number of bytes is a valid record limit
+-- the number, in bytes, is a valid record limit
 abbrev pub IsLimit : ℕ → Type 0
 IsLimit bytes = (MIN_RECORD_LIMIT ≤ bytes) × (bytes ≤ MAX_RECORD_LIMIT)
 
--- the number of a framing
+-- the number that represents a framing in C
 abbrev pub number_of_framing : Framing → ℕ
 number_of_framing Plain = 0
 number_of_framing Chunked = 1
 
--- the options of these numbers, or the first of them that is invalid: the limit is checked first
+-- the options that the two numbers represent, or the invalid one; the limit is checked first
 abbrev pub IsAsked : ℕ → ℕ → Result DecoderOptions BadOption → Type 0
 IsAsked limit framing (Ok asked) = IsLimit limit × (asked.limit ≡ limit) × (framing ≡ number_of_framing asked.framing)
 IsAsked limit framing (Err refused.Limit) = IsLimit limit → ⊥
 IsAsked limit framing (Err refused.Framing) = IsLimit limit × (1 < framing)
 
--- the status of a rejection
+-- the status that reports an invalid number
 abbrev pub refused_status : BadOption → ℕ
 refused_status refused.Limit = BAD_LIMIT
 refused_status refused.Framing = BAD_FRAMING

@@ -1,4 +1,5 @@
--- Decoding many events of a piece: calls of `next`, each on the bytes that the earlier ones left.
+-- Decoding many events of a piece, stated as calls of `next`: each is on the bytes of the piece
+-- that the earlier calls left.
 use Rattle.std.specs.Prelude.{◌≡◌, ℕ, ◌+◌, ◌<◌, ◌⊎◌, List, [], ◌∷◌, ◌++◌, Bool, length, drop}
 use Rattle.mesosev_c.specs.Rows.{Reporting, texts_of, rows_of}
 use Rattle.mesosev_c.specs.Reporting.{ReportsStep}
@@ -9,18 +10,18 @@ use Rattle.mesosev_c.specs.declared.text_decoder.Batch.{Batch}
 use Rattle.mesosev_c.specs.declared.text_decoder.TextDecoder.{TextDecoder}
 use Rattle.mesosev_c.specs.declared.text_decoder.Reported.{Reported}
 
--- the status reports an event
+-- the status is that of an event, with or without a text
 abbrev pub IsEvent : ℕ → Type 0
 IsEvent status = (status ≡ EVENT) ⊎ (status ≡ NO_TEXT)
 
--- one call of `next` for each event reports it, in this order, and together they use `used` bytes
+-- for each event, in this order, one call of `next` reports it; the calls use `used` bytes
 abbrev pub ReportsEach : Bool → EventDecoder → EventDecoder → List ℕ → ℕ → List Reporting → Type 0
 ReportsEach texts old new piece used [] = (new ≡ old) × (used ≡ 0)
 ReportsEach texts old new piece used (one ∷ others) =
     (between : EventDecoder) × (first : ℕ) × (rest : ℕ) × (used ≡ first + rest)
     × IsEvent one.reported.status × ReportsStep texts old between piece first one.reported one.text × ReportsEach texts between new (drop first piece) rest others
 
--- the next call of `next` reports no event, and its status is returned
+-- one more call of `next` reports no event, and the status is that of this call
 pub record Stops (texts : Bool) (old new : EventDecoder) (piece : List ℕ) (used status : ℕ) : Type 0 where
   pub reported : Reported
   pub text : List ℕ
@@ -28,7 +29,7 @@ pub record Stops (texts : Bool) (old new : EventDecoder) (piece : List ℕ) (use
   pub no_event : IsEvent reported.status → ⊥
   pub is_status : status ≡ reported.status
 
--- calls of `next` report these events: one for each row, or all up to a call without an event
+-- calls of `next` report these events: one for each row of the buffer, or fewer before the end
 pub record ReportsMany (texts : Bool) (old new : EventDecoder) (piece : List ℕ) (room used status : ℕ) (events : List Reporting) : Type 0 where
   pub between : EventDecoder
   pub taken : ℕ
@@ -37,7 +38,7 @@ pub record ReportsMany (texts : Bool) (old new : EventDecoder) (piece : List ℕ
   pub stops : ((length events ≡ room) × (new ≡ between) × (rest ≡ 0) × (status ≡ EVENT)) ⊎ ((length events < room) × Stops texts between new (drop taken piece) rest status)
   pub is_used : used ≡ taken + rest
 
--- the events are described in the first rows, and their texts are concatenated
+-- the first rows of the buffer describe the events, whose texts are concatenated
 pub record ReportsBatch (old new : TextDecoder) (piece : List ℕ) (before after : List Row) (batch : Batch) : Type 0 where
   pub events : List Reporting
   pub many : ReportsMany old.texts old.decoder new.decoder piece (length before) batch.used batch.status events

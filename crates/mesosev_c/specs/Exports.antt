@@ -18,7 +18,7 @@ use Rattle.mesosev_c.specs.declared.text_decoder.Batch.{Batch}
 use Rattle.mesosev_c.specs.declared.text_decoder.TextDecoder.{TextDecoder}
 use Rattle.mesosev_c.specs.declared.text_decoder.Reported.{Reported}
 
--- a whole input with valid options has its outcome; a rejection changes nothing else
+-- with valid options the outcome of a whole input is reported; else only a status is returned
 abbrev pub ChecksAsked : Result DecoderOptions BadOption → List ℕ → Counts → Counts → List ℕ → List ℕ → ℕ → Type 0
 ChecksAsked (Ok asked) w old new before room status = ReportsInput asked.framing asked.limit w new before room status
 ChecksAsked (Err refused) w old new before room status = (status ≡ refused_status refused) × (new ≡ old) × (room ≡ before)
@@ -35,7 +35,7 @@ pub record IsNew (asked : DecoderOptions) (texts : ℕ) (decoder : TextDecoder) 
   pub represents : Represents decoder.decoder asked.framing asked.limit [] []
   pub makes : decoder.texts ≡ not (texts == 0)
 
--- a decoder with valid options was placed; a rejection leaves the slot unchanged
+-- with valid options a new decoder was placed; else the slot is unchanged
 abbrev pub MadeAsked : Result DecoderOptions BadOption → ℕ → Slot → Slot → ℕ → Type 0
 MadeAsked (Ok asked) texts old new status = (decoder : TextDecoder) × IsNew asked texts decoder × IsPlaced decoder old new status
 MadeAsked (Err refused) texts old new status = (status ≡ refused_status refused) × (new ≡ old)
@@ -43,7 +43,7 @@ MadeAsked (Err refused) texts old new status = (status ≡ refused_status refuse
 abbrev pub AnswersNew : ℕ → ℕ → ℕ → Slot → Slot → ℕ → Type 0
 AnswersNew limit framing texts old new status = (asked : Result DecoderOptions BadOption) × IsAsked limit framing asked × MadeAsked asked texts old new status
 
--- the answer has the result, with the decoder's text
+-- the C result `answer` has the numbers of the result `reported`, and the decoder's text
 pub record IsGiven (decoder : TextDecoder) (reported : Reported) (used : ℕ) (answer : Answer) (status : ℕ) : Type 0 where
   pub is_status : status ≡ reported.status
   pub is_used : answer.used ≡ used
@@ -51,26 +51,26 @@ pub record IsGiven (decoder : TextDecoder) (reported : Reported) (used : ℕ) (a
   pub is_text : answer.text ≡ vec_ptr decoder.text
   pub is_size : answer.size ≡ length decoder.text.items
 
--- the result of decoding a piece
+-- the status and the C result of decoding a piece up to one event
 pub record AnswersNext (old new : TextDecoder) (piece : List ℕ) (answer : Answer) (status : ℕ) : Type 0 where
   pub reported : Reported
   pub next : ReportsNext old new piece answer.used reported
   pub given : IsGiven new reported answer.used answer status
 
--- the answers have the result of many events, with the address of the decoder's texts
+-- the C result `answers` has the numbers of `batch`, and the address of the decoder's texts
 pub record AreGiven (decoder : TextDecoder) (batch : Batch) (answers : Answers) (status : ℕ) : Type 0 where
   pub is_status : status ≡ batch.status
   pub is_used : answers.used ≡ batch.used
   pub is_count : answers.count ≡ batch.count
   pub is_texts : answers.texts ≡ vec_ptr decoder.text
 
--- the result of decoding a piece into rows
+-- the status, the rows and the C result of decoding many events of a piece
 pub record AnswersMany (old new : TextDecoder) (piece : List ℕ) (before rows : List Row) (answers : Answers) (status : ℕ) : Type 0 where
   pub batch : Batch
   pub reports : ReportsBatch old new piece before rows batch
   pub given : AreGiven new batch answers status
 
--- the result at the end of the input
+-- the status and the C result at the end of the input
 pub record AnswersFinish (old new : TextDecoder) (answer : Answer) (status : ℕ) : Type 0 where
   pub reported : Reported
   pub finish : ReportsFinish old new reported

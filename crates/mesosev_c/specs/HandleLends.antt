@@ -1,4 +1,4 @@
--- A handle lends its decoder.
+-- A `Handle` lends its decoder.
 use base.Fml.{Fml}
 use denote.Follow.{follows}
 use denote.Ref.{MutBor}
@@ -7,7 +7,7 @@ use Rattle.mesosev_c.specs.declared.text_decoder.TextDecoder.{TextDecoder}
 use Rattle.mesosev_c.specs.contracts.handle.Handle.{the_row as handle_row}
 use Rattle.mesosev_c.specs.contracts.text_decoder.TextDecoder.{the_row as decoder_row}
 
--- the handle with another decoder in its place
+-- the handle with another decoder in place of its own
 abbrev pub with_decoder : Handle → TextDecoder → Handle
 with_decoder h d = record { ptr = h.ptr; alloc = h.alloc; held = d }
 

@@ -1,4 +1,5 @@
--- A handle owns what a box of a decoder owns; a slot owns what its handle owns.
+-- A `Handle` owns the same memory as a `Box` of a decoder. A slot owns the memory that its handle
+-- owns.
 use base.Fml.{Fml, ftrue}
 use base.Stored.{Coded}
 use denote.RawPtr.{Ptr}
@@ -15,7 +16,7 @@ handle_owns alloc = box_owns (ghosts.dealloc_token alloc) the_row
 abbrev pub decoder_coded : Coded the_row.Denot
 decoder_coded = the_row.coded
 
--- what the handle in the slot owns, if there is one
+-- the memory that the handle in the slot owns, if there is a handle
 abbrev pub slot_owns : Global → Ptr → Option the_row.Denot → Fml
 slot_owns alloc ptr None = ftrue
 slot_owns alloc ptr (Some d) = handle_owns alloc ptr d

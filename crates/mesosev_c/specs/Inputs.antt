@@ -1,4 +1,4 @@
--- The outcome of a whole input.
+-- The outcome of decoding a whole input.
 use Rattle.std.specs.Prelude.{◌≡◌, ℕ, ◌⊎◌, ◌≤◌, List, length, take, Result, Ok, Err}
 use Rattle.mes_msg.specs.Event.{Event}
 use Rattle.mes_msg.specs.Events.{Spells}
@@ -12,12 +12,12 @@ use Rattle.mesosev_c.specs.Numbers.{number_of_fault}
 use Rattle.mesosev_c.specs.Rooms.{with_text}
 use Rattle.mesosev_c.specs.declared.exports.Counts.{Counts}
 
--- the outcome if the input ends after w, and all of w was used
+-- the outcome if all bytes of the input w were used, and then the input ended
 abbrev pub EndsAll : Framing → ℕ → List ℕ → List Event → ℕ → Result ℕ Stop → Type 0
 EndsAll framing limit w events used (Ok n) = InputEnds {T = Unit {0}} framing Spells limit w events (Ok tt) × (n ≡ used)
 EndsAll framing limit w events used (Err stop) = InputEnds {T = Unit {0}} framing Spells limit w events (Err stop.fault) × (stop.used ≡ used)
 
--- the stream of the events ends, or the error is detected, at a byte of w, the last one used
+-- the stream ends, or its first error is detected, at the last used byte of w
 abbrev pub StopsAmid : Framing → ℕ → List ℕ → List Event → Result ℕ Stop → Type 0
 StopsAmid framing limit w events (Ok n) = (n ≤ length w) × EndsIn framing Spells limit (take n w) events
 StopsAmid framing limit w events (Err stop) = StopsWithin framing Spells IsEventRefusal 0 limit w events stop.fault stop.used
@@ -26,17 +26,17 @@ StopsAmid framing limit w events (Err stop) = StopsWithin framing Spells IsEvent
 abbrev pub IsInput : Framing → ℕ → List ℕ → List Event → Result ℕ Stop → Type 0
 IsInput framing limit w events outcome = EndsAll framing limit w events (length w) outcome ⊎ StopsAmid framing limit w events outcome
 
--- the line that is printed for the input
+-- the line that `mesosev check` prints for the input
 abbrev pub line_of : ℕ → Result ℕ Stop → List ℕ
 line_of events (Ok used) = count_text events used
 line_of events (Err stop) = fault_text stop.fault stop.used
 
--- 0, or the number of the error
+-- the status: 0, or the number of the error
 abbrev pub status_of : Result ℕ Stop → ℕ
 status_of (Ok used) = 0
 status_of (Err stop) = number_of_fault stop.fault
 
--- the number of bytes used
+-- the number of bytes of the input that were used
 abbrev pub used_of : Result ℕ Stop → ℕ
 used_of (Ok used) = used
 used_of (Err stop) = stop.used

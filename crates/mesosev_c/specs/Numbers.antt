@@ -6,31 +6,31 @@ use Rattle.mes_msg.specs.Event.TheVariants as event
 use Rattle.mes_stream.specs.declared.fault.Fault.{Fault}
 use Rattle.mes_stream.specs.declared.fault.Fault.TheVariants.{Frame, EndsInsideChunks, EndsInsideRecord, Text, Field, NoMemory, Read, ReadsSpent, BadEntry}
 
--- a whole stream or a call was read, or a handle was created
+-- the status of success: a whole stream or a call was read, or a handle was created
 abbrev pub SUCCESS : ℕ
 SUCCESS = 0
 
--- an allocation failed for a handle: the number of F13
+-- the status for a handle that could not be allocated: the number of F13
 abbrev pub NO_MEMORY : ℕ
 NO_MEMORY = 13
 
--- more input is needed
+-- the status if more input is needed
 abbrev pub MORE : ℕ
 MORE = 32
 
--- an event was decoded
+-- the status of a decoded event
 abbrev pub EVENT : ℕ
 EVENT = 33
 
--- the stream has ended
+-- the status at the end of the stream
 abbrev pub END : ℕ
 END = 34
 
--- an event or a call was decoded, without a text
+-- the status of a decoded event or call whose text is too deep, too large or not allocated
 abbrev pub NO_TEXT : ℕ
 NO_TEXT = 35
 
--- the limit is out of its range; the framing has no such number
+-- the statuses of a record limit out of its range, and of an unknown framing number
 abbrev pub BAD_LIMIT : ℕ
 BAD_LIMIT = 100
 

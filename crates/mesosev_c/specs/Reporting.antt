@@ -1,4 +1,4 @@
--- The reports of a decoder, in numbers and texts.
+-- The results of a `TextDecoder`, in numbers and texts.
 use Rattle.std.specs.Prelude.{◌≡◌, ℕ, ◌⊎◌, List, [], Bool, true, false, Result, Ok, Err}
 use Rattle.mes_frame.specs.declared.limits.TheConstants.{MAX_RECORD_LIMIT}
 use Rattle.mes_msg.specs.Canon.{canonical_text, IsGood, IsEncodeFault}
@@ -14,7 +14,7 @@ use Rattle.mesosev_c.specs.declared.event_decoder.EventDecoder.{EventDecoder}
 use Rattle.mesosev_c.specs.declared.text_decoder.TextDecoder.{TextDecoder}
 use Rattle.mesosev_c.specs.declared.text_decoder.Reported.{Reported}
 
--- an event: its type's number and, with texts, its canonical text if it fits, or why it does not
+-- an event: the number of its type and, with texts, its canonical text or the status NO_TEXT
 abbrev pub ReportsEvent : Bool → Event → List ℕ → Reported → Type 0
 ReportsEvent false event text reported = (reported.status ≡ EVENT) × (reported.kind ≡ number_of_event event) × (text ≡ [])
 ReportsEvent true event text reported =
@@ -30,19 +30,19 @@ ReportsFault used fault text reported = (reported.status ≡ number_of_fault fau
 abbrev pub ReportsPlain : ℕ → List ℕ → Reported → Type 0
 ReportsPlain status text reported = (reported.status ≡ status) × (reported.kind ≡ 0) × (text ≡ [])
 
--- the result for the bytes that were used
+-- a result of `EventDecoder::next`, in numbers and a text
 abbrev pub ReportsOutput : Bool → ℕ → Decoded Event Fault → List ℕ → Reported → Type 0
 ReportsOutput texts used out.More text reported = ReportsPlain MORE text reported
 ReportsOutput texts used (out.Event event) text reported = ReportsEvent texts event text reported
 ReportsOutput texts used out.End text reported = ReportsPlain END text reported
 ReportsOutput texts used (out.Fault fault) text reported = ReportsFault used fault text reported
 
--- the result at the end of the input
+-- a result of `EventDecoder::finish`, in numbers and a text
 abbrev pub ReportsEnd : ℕ → Result (Unit {0}) Fault → List ℕ → Reported → Type 0
 ReportsEnd used (Ok done) text reported = ReportsPlain END text reported
 ReportsEnd used (Err fault) text reported = ReportsFault used fault text reported
 
--- only the text changes
+-- the decoder changes only in its text
 pub record KeepsAll (old new : TextDecoder) : Type 0 where
   pub decoder : new.decoder ≡ old.decoder
   pub texts : new.texts ≡ old.texts
@@ -53,12 +53,12 @@ pub record ReportsStep (texts : Bool) (old new : EventDecoder) (piece : List ℕ
   pub takes : Takes old new piece used out
   pub reports : ReportsOutput texts new.used out text reported
 
--- the result of `next`
+-- the result of `TextDecoder::next`
 pub record ReportsNext (old new : TextDecoder) (piece : List ℕ) (used : ℕ) (reported : Reported) : Type 0 where
   pub step : ReportsStep old.texts old.decoder new.decoder piece used reported new.text.items
   pub texts : new.texts ≡ old.texts
 
--- the result of `finish`
+-- the result of `TextDecoder::finish`
 pub record ReportsFinish (old new : TextDecoder) (reported : Reported) : Type 0 where
   pub outcome : Result (Unit {0}) Fault
   pub ends : EndsInput old.decoder new.decoder outcome

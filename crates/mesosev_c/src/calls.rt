@@ -1,4 +1,4 @@
-//! Canonical text of a scheduler's call, or the error in it.
+//! Decoding of a scheduler's call: its canonical text, or its first error.
 
 ghost use Rattle.std.specs.Prelude.{◌≡◌};
 ghost use Rattle.mes_msg_call.specs.Calls.{call};
@@ -24,7 +24,7 @@ pub enum ReportedCall {
     Unfit,
     /// The call is valid, but its canonical text could not be allocated.
     Lost,
-    /// The first error in the bytes, as that of record 1.
+    /// The first error in the bytes, reported as an error in record 1 of a stream.
     Fault(Fault),
 }
 
@@ -38,7 +38,7 @@ pub fn report_call(alloc: Global, bytes: &[u8]) -> ReportedCall
     }
 }
 
-// `Unfit` or `Lost` if the call has no canonical text.
+// Returns the canonical text of the call, or `Unfit` or `Lost`.
 fn reported_text(alloc: Global, of: &Call) -> ReportedCall
     ensures { IsReportedText of.now result }
 {
@@ -50,7 +50,7 @@ fn reported_text(alloc: Global, of: &Call) -> ReportedCall
     }
 }
 
-// Converts the error into that of record 1.
+// Converts the error in a call into an error in record 1 of a stream.
 fn fault_of_call(fault: RecordFault) -> Fault
     ensures { result ≡ fault_at_record 1 (refusal_of fault) }
 {
@@ -73,11 +73,11 @@ fn fault_of_call(fault: RecordFault) -> Fault
 }
 
 impl ReportedCall {
-    /// Writes the text, or the error's line with offset `used`, to the front of `room`, as far as
-    /// it fits.
+    /// Writes the canonical text, or the error's line with offset `used`, to the front of `room`,
+    /// as far as there is space.
     ///
-    /// `size` becomes the length of the whole text or line in bytes. Returns `SUCCESS`, `NO_TEXT`,
-    /// or the number of the error.
+    /// `size` becomes the length of the whole text or line in bytes. Returns `SUCCESS`, `NO_TEXT`
+    /// (`size` is then 0), or the number of the error.
     pub fn put(&self, used: u64, size: &mut u64, room: &mut [u8]) -> u32
         ensures { PutsCall self.now used size.new room.old room.new result }
     {

@@ -1,4 +1,5 @@
-//! Decoder of events in either framing that counts the bytes and remembers how the stream ended.
+//! A decoder of the events of plain RecordIO or of a chunked body. It counts the bytes used, and
+//! stores how the stream ended.
 
 ghost use Rattle.std.specs.Prelude.{◌≡◌, []};
 ghost use Rattle.mesosev_c.specs.Decoders.{Takes, EndsInput, Represents, EndsBy, answer_of, outcome_of, end_by};
@@ -11,14 +12,14 @@ use std::alloc::Global;
 /// How a stream ended.
 #[derive(Debug, Drop)]
 pub enum StreamEnd {
-    /// Without an error.
+    /// The stream ended without an error.
     Closed,
-    /// With this error.
+    /// The stream ended with this error.
     Failed(Fault),
 }
 
 impl StreamEnd {
-    // The result of `next` after this end.
+    // Returns the result of each later call of `next`.
     fn answer(&self) -> Decoded<Event>
         ensures { result ≡ answer_of self.now }
     {
@@ -28,7 +29,7 @@ impl StreamEnd {
         }
     }
 
-    // The result of `finish` after this end.
+    // Returns the result of each later call of `finish`.
     fn outcome(&self) -> Result<(), Fault>
         ensures { result ≡ outcome_of self.now }
     {
@@ -38,7 +39,7 @@ impl StreamEnd {
         }
     }
 
-    // The end that this result brings, if any.
+    // Returns how the stream ended, if this result of `next` is the end or an error.
     fn brought(out: &Decoded<Event>) -> Option<StreamEnd>
         ensures { EndsBy result out.now }
     {
@@ -50,7 +51,7 @@ impl StreamEnd {
         }
     }
 
-    // The end that the end of the input brings.
+    // Returns how the stream ended, given the outcome at the end of the input.
     fn with_input(outcome: Result<(), Fault>) -> StreamEnd
         ensures { result ≡ end_by outcome }
     {
@@ -61,14 +62,14 @@ impl StreamEnd {
     }
 }
 
-// After the end or an error the stream's reader is freed.
+// A decoder frees its stream reader once the stream has ended.
 #[derive(Drop)]
 enum State {
     Going(StreamReader<EventReader>),
     Ended(StreamEnd),
 }
 
-/// Decodes the events of a stream in either framing.
+/// Decodes the events of a stream, which is plain RecordIO or a chunked body.
 #[derive(Drop)]
 pub struct EventDecoder {
     state: State,
@@ -96,7 +97,7 @@ impl EventDecoder {
     /// Decodes `piece` up to the first of these: the end of a record, of the stream or of the
     /// piece, or an error.
     ///
-    /// Each later call returns the same end or error, and uses no byte.
+    /// After the end or an error, each later call returns it again and uses no byte.
     pub fn next(&mut self, piece: &[u8]) -> Step<Event>
         ensures { Takes self.old self.new piece.now result.used result.out }
     {

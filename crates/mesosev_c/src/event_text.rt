@@ -1,4 +1,4 @@
-//! Canonical text of an event, appended to those of others.
+//! Appending of an event's canonical text to those of earlier events.
 
 ghost use Rattle.std.specs.Prelude.{◌≡◌};
 ghost use Rattle.mesosev_c.specs.EventTexts.{AppendsText};

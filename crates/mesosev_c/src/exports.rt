@@ -18,15 +18,15 @@ use arrayvec::ArrayString;
 use mes_stream::MAX_FAULT_LINE;
 use std::alloc::Global;
 
-/// The counts of a whole input.
+/// The counts that `mes_c_check` returns for a whole input.
 #[repr(C)]
 #[derive(Drop)]
 pub struct Counts {
     /// The number of events; it saturates at 2^64 - 1.
     pub events: u64,
-    /// The number of bytes used.
+    /// The number of bytes of the input that were used.
     pub used: u64,
-    /// The length of the line, in bytes.
+    /// The length of the line that `mesosev check` prints, in bytes.
     pub line: u64,
 }
 
@@ -36,10 +36,10 @@ pub struct Counts {
 pub struct Answer {
     /// The number of bytes of the piece that were used.
     pub used: u64,
-    /// The address of the text, valid until the next call on the handle; to be read only if `size`
-    /// is not 0.
+    /// The address of the event's text or of the error's line. The address is valid until the next
+    /// call on the handle, and may be read only if `size` is not 0.
     pub text: *const u8,
-    /// The length of the text, in bytes.
+    /// The length of the text at the address `text`, in bytes.
     pub size: u64,
     /// The number of the event's type; 0 if no event was decoded.
     pub kind: u32,
@@ -53,15 +53,15 @@ pub struct Answers {
     pub used: u64,
     /// The number of events.
     pub count: u64,
-    /// The address of their texts, valid until the next call on the handle; to be read only if an
-    /// event has a text.
+    /// The address of the events' texts. The address is valid until the next call on the handle,
+    /// and may be read only if an event has a text.
     pub texts: *const u8,
 }
 
 /// Decodes a whole input. Returns `SUCCESS`, or the number of the first error.
 ///
-/// Then `counts` has the counts, and `room` begins with the line that `mesosev check` prints, as
-/// far as it fits. `BAD_LIMIT` and `BAD_FRAMING` leave both unchanged.
+/// Sets `counts`, and writes the line that `mesosev check` prints to the front of `room`, as far as
+/// there is space. `BAD_LIMIT` and `BAD_FRAMING` leave `counts` and `room` unchanged.
 #[unsafe(no_mangle)]
 pub extern "C" fn mes_c_check(
     alloc: Global,
@@ -102,8 +102,8 @@ fn report_checked(checked: &Checked, counts: &mut Counts, room: &mut [u8]) -> u3
 /// Decodes a call. Returns `SUCCESS` with its canonical text, the number of the error with its
 /// line, or `NO_TEXT`.
 ///
-/// `size` becomes the length of the text or line in bytes; `room` begins with it, as far as it
-/// fits.
+/// `size` becomes the length of the text or line in bytes. The text or line is written to the front
+/// of `room`, as far as there is space.
 #[unsafe(no_mangle)]
 pub extern "C" fn mes_c_call(alloc: Global, bytes: &[u8], size: &mut u64, room: &mut [u8]) -> u32
     ensures { ReportsCall bytes.now size.new room.old room.new result }
@@ -114,8 +114,8 @@ pub extern "C" fn mes_c_call(alloc: Global, bytes: &[u8], size: &mut u64, room: 
 /// Creates a decoder on the heap, and stores its handle in `slot`. The decoder produces the events'
 /// texts, unless `texts` is 0.
 ///
-/// Returns `SUCCESS`; or 13 if an allocation failed, `BAD_LIMIT` or `BAD_FRAMING`, which leave
-/// `slot` unchanged.
+/// Returns `SUCCESS`. On error leaves `slot` unchanged, and returns 13 if an allocation failed,
+/// `BAD_LIMIT` or `BAD_FRAMING`.
 #[unsafe(no_mangle)]
 pub extern "C" fn mes_c_decoder_new(
     alloc: Global,
@@ -176,13 +176,13 @@ pub extern "C" fn mes_c_decoder_finish(handle: &mut Handle, answer: &mut Answer)
     give(decoder, reported, 0, answer)
 }
 
-/// Frees a decoder.
+/// Frees the decoder of a handle.
 #[unsafe(no_mangle)]
 pub extern "C" fn mes_c_decoder_free(handle: Handle) {
     drop(handle);
 }
 
-// On error `slot` is unchanged.
+// Stores a handle of the decoder in `slot`. If the allocation fails, leaves `slot` unchanged.
 fn place_in(alloc: Global, decoder: TextDecoder, slot: &mut Slot) -> u32
     ensures { IsPlaced decoder slot.old slot.new result }
 {

@@ -1,4 +1,5 @@
-//! Handle of a decoder on the heap. Only this file uses raw memory, and its proofs are by hand.
+//! The handle of a decoder on the heap. Of this crate, only this file uses raw memory; its proofs
+//! are written by hand.
 
 ghost use Rattle.std.specs.Prelude.{◌≡◌, Option, Some};
 ghost use Rattle.std.specs.Box.Ownership.{box_owns};
@@ -9,7 +10,7 @@ use crate::text_decoder::TextDecoder;
 use std::alloc::{Allocator, Global};
 use std::marker::Model;
 
-/// A C program's decoder: its address on the heap.
+/// A handle that a C program owns: the address of a decoder on the heap.
 #[repr(C)]
 pub struct Handle {
     ptr: *mut u8,
@@ -53,7 +54,7 @@ impl Handle {
 pub struct Slot {
     ptr: *mut u8,
     alloc: Global,
-    /// The decoder of the handle in the slot, if any.
+    /// The decoder of the handle in the slot, if the slot has a handle.
     pub ghost held: { Option TextDecoder } by { maybe_coded },
 }
 

@@ -12,7 +12,7 @@
 //! ```
 //!
 //! C programs include `lib/mesosev.h`; `lib/mesosev.c` rejects null pointers before each call. The
-//! tests are `tests/c_library`, the definitions `specs/`.
+//! tests are in `tests/c_library`, the definitions in `specs/`.
 
 mod caller_buffer;
 mod calls;

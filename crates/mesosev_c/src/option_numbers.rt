@@ -21,7 +21,7 @@ pub struct DecoderOptions {
 pub enum BadOption {
     /// The record limit is out of its range.
     Limit,
-    /// The framing has no such number; the limit is valid.
+    /// No framing has the number; the record limit is valid.
     Framing,
 }
 

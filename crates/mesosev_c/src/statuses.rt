@@ -14,7 +14,7 @@ pub const SUCCESS: u32 = 0;
 /// The status for a handle that could not be allocated: the number of F13.
 pub const NO_MEMORY: u32 = 13;
 
-/// The status after a whole piece was used: more input is needed.
+/// The status if all bytes of a piece were used and no event ended: more input is needed.
 pub const MORE: u32 = 32;
 
 /// The status of a decoded event.

@@ -1,4 +1,5 @@
-//! Decoder that reports an event by number and canonical text, an error by number and line.
+//! A decoder that reports an event by the number of its type and its canonical text, and an error
+//! by its number and its line.
 
 ghost use Rattle.std.specs.Prelude.{◌≡◌, ◌<◌, [], length};
 ghost use Rattle.std.specs.Vec.{vec_ptr};
@@ -18,7 +19,7 @@ use mes_msg::Event;
 use mes_stream::{Decoded, Fault, Framing, MAX_FAULT_LINE, fault_line};
 use std::alloc::Global;
 
-/// The result of a call, in numbers.
+/// The result of `next` or `finish`, in numbers.
 #[derive(Clone, Copy, Debug, PartialEq, Eq)]
 pub struct Reported {
     /// `MORE`, `EVENT`, `NO_TEXT`, `END`, or the number of an error.
@@ -27,7 +28,7 @@ pub struct Reported {
     pub kind: u32,
 }
 
-/// The result of a call that decodes many events.
+/// The result of `many`.
 #[derive(Clone, Copy, Debug, PartialEq, Eq)]
 pub struct Batch {
     /// `EVENT` if the rows are full, else `MORE`, `END`, or the number of an error.
@@ -38,12 +39,12 @@ pub struct Batch {
     pub used: usize,
 }
 
-/// A decoder in either framing that retains the text of its last result.
+/// A decoder of plain RecordIO or of a chunked body that retains the text of its last result.
 #[derive(Drop)]
 pub struct TextDecoder {
     alloc: Global,
     decoder: EventDecoder,
-    // Whether texts of events are produced.
+    // True if the decoder produces the texts of events.
     texts: bool,
     // The concatenated canonical texts of the last events, or the line of the error.
     text: Vec<u8>,
@@ -71,7 +72,7 @@ impl TextDecoder {
         self.text.as_slice()
     }
 
-    /// Returns the address of the text.
+    /// Returns the address of the text that `text` returns.
     pub(crate) fn text_at(&self) -> *const u8
         ensures { result ≡ vec_ptr self.now.text }
     {
@@ -81,8 +82,8 @@ impl TextDecoder {
     /// Decodes `piece` up to the first of these: the end of a record, of the stream or of the
     /// piece, or an error.
     ///
-    /// Returns the result and the number of bytes used. Each later call returns the same end or
-    /// error.
+    /// Returns the result and the number of bytes used. After the end or an error, each later call
+    /// returns it again.
     pub fn next(&mut self, piece: &[u8]) -> (Reported, usize)
         ensures { ReportsNext self.old self.new piece.now result.1 result.0 }
     {
@@ -92,8 +93,8 @@ impl TextDecoder {
 
     /// Decodes `piece` as repeated calls of `next` do, and describes each event in a row of `room`.
     ///
-    /// Stops once all bytes are used, `room` is full, or the stream has ended. The texts are
-    /// concatenated.
+    /// Stops once all bytes are used, `room` is full, or the stream has ended. The texts of the
+    /// events are concatenated.
     pub fn many(&mut self, piece: &[u8], room: &mut [Row]) -> Batch
         ensures { ReportsBatch self.old self.new piece.now room.old room.new result }
     {
@@ -137,7 +138,8 @@ impl TextDecoder {
         }
     }
 
-    // Clears the text. Frees the buffer if it is larger than `MAX_REUSED_CAPACITY`.
+    // Clears the text. Frees the text's buffer if its capacity is larger than
+    // `MAX_REUSED_CAPACITY`.
     fn clear_text(&mut self)
         ensures text { self.new.text.items ≡ [] }
         ensures keeps { KeepsAll self.old self.new }
@@ -212,7 +214,8 @@ impl TextDecoder {
         };
     }
 
-    // Returns the offset of the text. If an allocation fails, the earlier texts are lost too.
+    // Appends the event's text, and returns its offset. If an allocation fails, the earlier texts
+    // are lost too.
     fn add_text(&mut self, event: &Event, others: &mut [Row]) -> usize
         ensures adds { AddsText self.old.texts event.now self.old.text.items self.new.text.items
             others.old others.new result }

@@ -36,7 +36,7 @@ pub fn check_whole(alloc: Global, framing: Framing, limit: Limit, bytes: &[u8]) 
     read_all(&mut stream, bytes)
 }
 
-// `stream` is before its first byte.
+// Decodes the whole input; `stream` has not read a byte yet.
 fn read_all(stream: &mut StreamReader<EventReader>, bytes: &[u8]) -> Checked
     ensures { (framing : FramingValue) (limit : ℕ)
         → StreamRepresents HoldsData Spells 0 stream.old framing limit [] []
@@ -74,7 +74,7 @@ fn read_all(stream: &mut StreamReader<EventReader>, bytes: &[u8]) -> Checked
     Checked { events, outcome }
 }
 
-// The outcome if the input ends after `used` bytes, and all were used.
+// Returns the outcome if the input ends and all its bytes, `used` in number, were used.
 fn end_all(stream: &StreamReader<EventReader>, used: u64) -> Result<u64, Stop>
     ensures { (framing : FramingValue) (limit : ℕ) (w : List ℕ) (events : List EventValue)
         → StreamRepresents HoldsData Spells 0 stream.now framing limit w events
@@ -87,7 +87,7 @@ fn end_all(stream: &StreamReader<EventReader>, used: u64) -> Result<u64, Stop>
 }
 
 impl Checked {
-    /// Returns `SUCCESS`, or the number of the error.
+    /// Returns the status of the outcome: `SUCCESS`, or the number of the error.
     pub fn status(&self) -> u32
         ensures { result ≡ status_of self.now.outcome }
     {
@@ -97,7 +97,7 @@ impl Checked {
         }
     }
 
-    /// Returns the number of bytes used.
+    /// Returns the number of bytes of the input that were used.
     pub fn used(&self) -> u64
         ensures { result ≡ used_of self.now.outcome }
     {
@@ -107,8 +107,8 @@ impl Checked {
         }
     }
 
-    /// Writes to `line` what `mesosev check` prints for the input, without the LF. Replaces its
-    /// content.
+    /// Replaces the content of `line` with the line that `mesosev check` prints for the input,
+    /// without the LF.
     pub fn line(&self, line: &mut ArrayString<MAX_FAULT_LINE>)
         ensures { line.new.bytes ≡ line_of self.now.events self.now.outcome }
     {

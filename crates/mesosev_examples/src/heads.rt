@@ -1,4 +1,5 @@
-//! HTTP heads that are read: of a stream, of a response to another call, and of a request.
+//! Example rows that read an HTTP head: of the response to a SUBSCRIBE, of the response to another
+//! call, or of a request.
 
 use crate::bytes::bytes_of;
 use crate::outcome::Reported;
@@ -8,7 +9,7 @@ use mes_frame::MemorySource;
 use mes_stream::MAX_READ;
 use std::alloc::Global;
 
-/// Reads the head of a row, of the kind named by its first word.
+/// Reads the head in an example row. The first word of the row names the function that reads.
 pub(crate) fn answer(alloc: Global, row: &str, words: &mut Words) -> Result<(), Reported> {
     let (what, text) = row.split_once(' ').unwrap_or((row, ""));
     let bytes = bytes_of(text)?;
@@ -19,7 +20,7 @@ pub(crate) fn answer(alloc: Global, row: &str, words: &mut Words) -> Result<(), 
     }
 }
 
-// Prints the stream's id.
+// Prints the stream id in the head of the response to a SUBSCRIBE.
 fn tell_head(bytes: &[u8], words: &mut Words) -> Result<(), Reported> {
     let id = read_head(&mut MemorySource::new(bytes, MAX_READ))?;
     words.say(id.as_str());
@@ -32,7 +33,7 @@ fn tell_answer(bytes: &[u8], words: &mut Words) -> Result<(), Reported> {
     Ok(())
 }
 
-// Prints the stream's id and the body.
+// Prints the stream id of a request, or `-`, and its body.
 fn tell_request(alloc: Global, bytes: &[u8], words: &mut Words) -> Result<(), Reported> {
     let request = request_of(alloc, bytes)?;
     say_request(&request, words);

@@ -1,6 +1,6 @@
-//! State of a session or a test master, read through every getter, as a text that does not
-//! allocate. It is printed, and compared before and after a failed call. `missing` marks an index
-//! below the length without a value.
+//! The state of a session or a test master, read through every getter, as a text that does not
+//! allocate. The text is printed, and compared before and after a failed call. In the text
+//! `missing` represents a getter that returns no value at an index below the length.
 
 use crate::offers::{add_offer, is_same_offer};
 use crate::words::Words;
@@ -8,7 +8,7 @@ use mes_double_master::Master;
 use mes_model::{Id, Offer, OwedKey};
 use mes_session::Session;
 
-// An identifier of no offer in the rows.
+// An identifier that no offer in the example rows has.
 const NO_OFFER: &str = "O0";
 
 /// Describes a session: its framework or `-`, whether it is connected, the outstanding offers, and
@@ -51,8 +51,8 @@ fn add_length(words: &mut Words, name: &str, length: usize) {
     words.add_number(length as u64);
 }
 
-// Looks up each offer by index and by identifier. An index after the last offer and an unknown
-// identifier must give none.
+// Looks up each offer by index and by identifier. The getters must return no offer for the index
+// after the last offer, and for an unknown identifier.
 fn add_hand(words: &mut Words, session: &Session) {
     let length = session.hand_len();
     add_length(words, "hand", length);
@@ -81,7 +81,7 @@ fn found_again(offer: &Offer, again: Option<&Offer>) -> &'static str {
     }
 }
 
-// Marks a value at an index or identifier that must have none.
+// Reports a value that a getter returns for an index or identifier that must have none.
 fn add_stray(words: &mut Words, is_there: bool) {
     if is_there {
         words.add_word("stray");
@@ -131,7 +131,7 @@ fn add_acked(words: &mut Words, master: &Master) {
     add_stray(words, master.acked_at(length).is_some());
 }
 
-// The agent, the task, and the uuid in hexadecimal digits.
+// Appends the key of an update: the agent, the task, and the uuid in hexadecimal digits.
 fn add_key(words: &mut Words, key: Option<&OwedKey>) {
     let Some(key) = key else {
         words.add_word("missing");

@@ -1,4 +1,4 @@
-//! Session logs: read, replayed and written.
+//! Example rows that read a session log, and then replay it or write it again.
 
 use crate::bytes::{Bytes, bytes_of};
 use crate::messages::{call_text, event_text};
@@ -12,11 +12,11 @@ use mes_session::{Session, read_log, replay, write_log};
 use mes_stream::{MAX_READ, Report, Stop};
 use std::alloc::Global;
 
-// The maximum number of reads for a log.
+// The maximum number of reads of a session log.
 const READS: u64 = 1_000;
 
-/// Reads the log of a row, and prints its entries and its length. Then prints the outcome of the
-/// replay, or the log as written.
+/// Reads the session log in an example row, and prints the log's entries and length. Then replays
+/// the log and prints the final session, or writes the log and prints the bytes.
 pub(crate) fn answer(alloc: Global, row: &str, words: &mut Words) -> Result<(), Reported> {
     let (what, text) = row.split_once(' ').unwrap_or((row, ""));
     let mut entries = Vec::new(alloc);
@@ -24,7 +24,8 @@ pub(crate) fn answer(alloc: Global, row: &str, words: &mut Words) -> Result<(), 
     tell(alloc, what, entries.as_slice(), words)
 }
 
-// After an error the entries that precede it are printed.
+// Reads and prints the entries of a log. After an error prints the entries that precede it, and the
+// error.
 fn read(
     alloc: Global,
     text: &str,
@@ -44,7 +45,7 @@ fn read_once(alloc: Global, bytes: &[u8], entries: &mut Vec<Entry>) -> Result<Re
     read_log(alloc, &mut source, Limit::USUAL, READS, entries)
 }
 
-// The letter of each entry and its canonical text.
+// Prints the letter of each entry and the entry's canonical text.
 fn tell_entries(alloc: Global, entries: &[Entry], words: &mut Words) -> Result<(), Reported> {
     for entry in entries {
         tell_entry(alloc, entry, words)?;
@@ -71,7 +72,8 @@ fn tell_end(count: u64, report: Result<Report, Stop>, words: &mut Words) -> Resu
     Ok(())
 }
 
-// Prints the number of entries, the length in bytes, and the bytes that were read after the end.
+// Prints the number of entries, the length of the log in bytes, and the bytes that were read after
+// its end.
 fn say_report(count: u64, report: &Report, words: &mut Words) {
     words.say_number("entries", count);
     words.add(" bytes ");
@@ -108,7 +110,7 @@ fn session_of(alloc: Global, entries: &[Entry]) -> Result<Session, Reported> {
     }
 }
 
-// If an allocation fails, nothing may have been written.
+// Writes the log and prints the bytes. If an allocation fails, no byte may have been written.
 fn tell_written(alloc: Global, entries: &[Entry], words: &mut Words) -> Result<(), Reported> {
     let mut written = Bytes::new();
     let mut sink = FromStd::new(&mut written);

@@ -1,6 +1,6 @@
-//! Worked examples of the libraries' promises, run through their public calls. Each row prints one
-//! line: its name, and the result. A row for which an allocation fails says so and runs once more.
-//! docs/FORMAT.md describes the lines; rows.rt has the rows.
+//! Worked examples of the libraries' promises, run through their public functions. Each example row
+//! prints one line: the row's name and its result. If an allocation fails, the line says so, and
+//! the row runs once more. docs/FORMAT.md describes the lines; rows.rt has the rows.
 #![tactic(auto)]
 
 mod bytes;
@@ -36,7 +36,7 @@ fn main(rt: HostRuntime) -> io::Result<()> {
     Ok(())
 }
 
-// A row for which an allocation fails runs once more.
+// Runs an example row and prints its line. If an allocation fails, runs the row once more.
 fn tell_row(rt: &HostRuntime, line: &str) -> io::Result<()> {
     let (name, asked) = line.split_once(" => ").unwrap_or((line, ""));
     let mut words = Words::new();
@@ -46,7 +46,7 @@ fn tell_row(rt: &HostRuntime, line: &str) -> io::Result<()> {
     println!(rt; "{name}: {}{}", words.as_str(), words.ending())
 }
 
-// Returns whether an allocation failed.
+// Runs an example row. Returns whether an allocation failed.
 fn is_refused(alloc: Global, asked: &str, words: &mut Words) -> bool {
     let (what, rest) = asked.split_once(' ').unwrap_or((asked, ""));
     let answer = answer(alloc, what, rest, words);

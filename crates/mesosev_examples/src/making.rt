@@ -1,4 +1,4 @@
-//! Calls made by a session from given calls.
+//! Functions with which a session makes a call like a given call.
 
 use mes_model::{OwedKey, Part, TaskInfo};
 use mes_msg::{
@@ -33,7 +33,7 @@ fn accept(session: &mut Session, body: &Accept) -> Result<Call, Refusal> {
     session.accept(ids, tasks_of(body), body.filters.as_ref())
 }
 
-// The tasks of the first operation, if any.
+// Returns the tasks of the ACCEPT's first operation, if any.
 fn tasks_of(body: &Accept) -> &[TaskInfo] {
     match body.operations.as_slice().first() {
         Some(Operation::Launch { task_infos }) => task_infos.as_slice(),

@@ -1,4 +1,4 @@
-//! A test master: its responses, the events that it sends, and its state.
+//! Example rows of a test master: its responses, the events that it sends, and its state.
 
 use crate::held::held_by_master;
 use crate::messages::{call_of, event_of, say_event};
@@ -15,35 +15,36 @@ use mes_msg::{Call, Event};
 use std::alloc::Global;
 use uuid::Uuid;
 
-// The id of the first stream, to which each call is addressed.
+// The number from which the id of the first stream is made. Each call names this stream.
 const FIRST_STREAM: u128 = 1;
 
 const SECOND_STREAM: u128 = 2;
 
-// An event that a master sends on its own, or records as sent.
+// An event that a master sends without a call, or records as sent.
 #[derive(Clone, Copy)]
 enum Sending<'a> {
-    // Offers that it makes.
+    // Offers that the master makes.
     Offers(&'a [Offer]),
-    // Offers that it records as made.
+    // Offers that the master records as made, without an event.
     NotedOffers(&'a [Offer]),
-    // A rescind of the offer with this identifier.
+    // A RESCIND of the offer with this identifier.
     Rescind(&'a str),
     Update(&'a TaskStatus),
-    // An update that it records as sent.
+    // An update that the master records as sent, without an event.
     NotedUpdate(&'a TaskStatus),
-    // The unacknowledged update at this index.
+    // The unacknowledged update at this index, which the master sends again.
     Resend(usize),
 }
 
-/// Performs the steps of a row on a new master.
+/// Performs the steps of an example row on a new master.
 pub(crate) fn run(alloc: Global, steps: &str, words: &mut Words) -> Result<(), Reported> {
     change(new_master(alloc)?, |master| {
         do_steps(alloc, master, steps, words)
     })
 }
 
-// A rejected step is printed, and the row goes on; a failed allocation ends the row.
+// If a step is rejected, prints the reason and goes on with the next step. A failed allocation ends
+// the example row.
 fn do_steps(
     alloc: Global,
     master: &mut Master,
@@ -57,7 +58,7 @@ fn do_steps(
     Ok(())
 }
 
-// A master of the framework F1.
+// Returns a master of the framework F1 with the ids of two streams.
 fn new_master(alloc: Global) -> Result<Master, NoMemory> {
     let framework = framework(alloc)?;
     let ids = stream_ids(alloc)?;
@@ -76,7 +77,7 @@ fn stream_ids(alloc: Global) -> Result<Vec<Uuid>, NoMemory> {
     Ok(ids)
 }
 
-// Handles a call, sends an event, or prints the state.
+// Performs one step: handles a call, sends or records an event, or prints the state.
 fn do_step(
     alloc: Global,
     master: &mut Master,
@@ -112,18 +113,18 @@ fn answer_call(
     tell_answer(alloc, &answer, words)
 }
 
-// Prints the status and the events.
+// Prints the status and the events of a response.
 fn tell_answer(alloc: Global, answer: &Answer, words: &mut Words) -> Result<(), Reported> {
     words.say_number("answered", u64::from(answer.status.as_u16()));
     tell_events(alloc, answer.events.as_slice(), words)
 }
 
-// Repeats the call once if an allocation fails.
+// Handles a call, and repeats this once if an allocation fails.
 fn handle(master: &mut Master, call: &Call, words: &mut Words) -> Result<Answer, Reported> {
     ask_twice(|| handle_once(master, call), words)
 }
 
-// After an error every getter must return the same as before.
+// After an error, every getter of the master must return the same as before the call.
 fn handle_once(master: &mut Master, call: &Call) -> Result<Answer, Reported> {
     let stream = StreamId::of_uuid(Uuid::from_u128(FIRST_STREAM));
     let before = held_by_master(master);
@@ -133,7 +134,7 @@ fn handle_once(master: &mut Master, call: &Call) -> Result<Answer, Reported> {
     }
 }
 
-// Offers or an update.
+// Has the master send the event in `text`: an OFFERS or an UPDATE.
 fn send_like(
     alloc: Global,
     master: &mut Master,
@@ -158,7 +159,7 @@ fn send_told(
     }
 }
 
-// Offers or an update.
+// Has the master record the event in `text` as sent: an OFFERS or an UPDATE.
 fn note_like(
     alloc: Global,
     master: &mut Master,
@@ -178,7 +179,7 @@ fn note_told(master: &mut Master, event: &Event, words: &mut Words) -> Result<()
     }
 }
 
-// A recorded event is not sent, so that there must be none.
+// Has the master record an event as sent. The master must return no event.
 fn note(master: &mut Master, sending: Sending<'_>, words: &mut Words) -> Result<(), Reported> {
     look_at(sent_event(master, sending, words)?, |event| {
         words.say(if event.is_none() { "noted" } else { "sent" });
@@ -210,7 +211,8 @@ fn send(
     })
 }
 
-// Returns `None` for what is only recorded. Repeats the call once if an allocation fails.
+// Returns the event that the master sends, or `None` if the master only records it. Repeats this
+// once if an allocation fails.
 fn sent_event(
     master: &mut Master,
     sending: Sending<'_>,
@@ -219,7 +221,7 @@ fn sent_event(
     ask_twice(|| send_once(master, sending), words)
 }
 
-// After an error every getter must return the same as before.
+// After an error, every getter of the master must return the same as before the call.
 fn send_once(master: &mut Master, sending: Sending<'_>) -> Result<Option<Event>, Reported> {
     let before = held_by_master(master);
     match ask_to_send(master, sending) {

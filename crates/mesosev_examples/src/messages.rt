@@ -1,4 +1,4 @@
-//! Events, calls and resources, read from their texts and written again.
+//! Example rows that read an event, a call or a resource from its text and write it again.
 
 use crate::outcome::Reported;
 use crate::parsing::look_at;
@@ -8,11 +8,11 @@ use mes_model_schema::json::{self, NoMemory, read_text, write_text};
 use mes_msg::{Call, Event, Limit};
 use std::alloc::Global;
 
-// The content of a buffer before a tree is written to it.
+// The word that a buffer contains before a JSON tree or lines are appended.
 const WORD: &[u8] = b"tree ";
 
-/// Reads an event; prints its canonical text, its lines, and whether its copy and its text read
-/// again are the same.
+/// Reads an event and prints its canonical text and its lines. Also prints whether the copy of the
+/// event, and the event read again from its canonical text, have the same canonical text.
 pub(crate) fn report_event(alloc: Global, text: &str, words: &mut Words) -> Result<(), Reported> {
     let event = event_of(alloc, text.as_bytes())?;
     tell_texts(alloc, &event, words)
@@ -50,7 +50,7 @@ pub(crate) fn say_event(alloc: Global, event: &Event, words: &mut Words) -> Resu
     Ok(())
 }
 
-// Prints whether the lines are the same when appended to a buffer.
+// Prints the lines of an event, and whether they are the same when they are appended to a buffer.
 fn tell_lines(alloc: Global, event: &Event, words: &mut Words) -> Result<(), Reported> {
     let lines = event.show_lines(alloc, 1)?;
     words.say_bytes(lines.as_slice());
@@ -62,8 +62,8 @@ fn tell_lines(alloc: Global, event: &Event, words: &mut Words) -> Result<(), Rep
     Ok(())
 }
 
-// If an allocation fails, the buffer must still begin with the word; a part of the lines may
-// follow.
+// Appends the lines to a buffer that contains `WORD`. If an allocation fails, the buffer must still
+// begin with `WORD`; a part of the lines may follow.
 fn lines_behind(alloc: Global, event: &Event) -> Result<Vec<u8>, Reported> {
     let mut lines = word(alloc)?;
     match event.push_lines(1, &mut lines) {
@@ -114,7 +114,7 @@ pub(crate) fn call_text(alloc: Global, call: &Call) -> Result<Vec<u8>, Reported>
     Ok(call.canon(alloc, Limit::USUAL)?)
 }
 
-/// Reads a resource, and prints it as written again.
+/// Reads a resource, and prints the text that is written for it.
 pub(crate) fn tell_resource(alloc: Global, text: &str, words: &mut Words) -> Result<(), Reported> {
     let resource = resource_of(alloc, text)?;
     say_resource(alloc, &resource, words)
@@ -126,7 +126,7 @@ fn say_resource(alloc: Global, resource: &Resource, words: &mut Words) -> Result
     Ok(())
 }
 
-// The text follows the word.
+// Returns `WORD` followed by the text of the resource.
 fn text_of_resource(alloc: Global, resource: &Resource) -> Result<Vec<u8>, Reported> {
     let tree = resource.tree(alloc)?;
     text_of(alloc, &tree)
@@ -142,8 +142,8 @@ pub(crate) fn tree_of(alloc: Global, text: &[u8]) -> Result<json::Json, Reported
     Ok(read_text(alloc, text)?)
 }
 
-/// Returns the word followed by the canonical text of a tree. If an allocation fails, the buffer
-/// must have the word alone.
+/// Returns `WORD` followed by the canonical text of a JSON tree. If an allocation fails, the buffer
+/// must contain only `WORD`.
 pub(crate) fn text_of(alloc: Global, tree: &json::Json) -> Result<Vec<u8>, Reported> {
     let mut text = word(alloc)?;
     match write_text(tree, &mut text) {
@@ -152,7 +152,7 @@ pub(crate) fn text_of(alloc: Global, tree: &json::Json) -> Result<Vec<u8>, Repor
     }
 }
 
-/// Returns what follows the word, if the text begins with it.
+/// Returns the bytes after `WORD`, if the text begins with `WORD`.
 pub(crate) fn behind_word(text: &[u8]) -> Option<&[u8]> {
     if text.get(..WORD.len()) == Some(WORD) {
         text.get(WORD.len()..)

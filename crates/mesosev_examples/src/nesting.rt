@@ -1,4 +1,5 @@
-//! Nested arrays, at the maximum depth and above, read at once and byte by byte.
+//! Example rows that read nested JSON arrays of the maximum depth, or deeper, at once or byte by
+//! byte.
 
 use crate::messages::{behind_word, event_of, text_of, tree_of};
 use crate::outcome::Reported;
@@ -6,10 +7,10 @@ use crate::words::Words;
 use mes_model_schema::json::{self, Lexer, MAX_NESTING, ReadFault};
 use std::alloc::Global;
 
-// One level above the maximum.
+// The beginning of arrays that nest one level deeper than the maximum.
 const DEEPER: [u8; MAX_NESTING + 1] = [b'['; MAX_NESTING + 1];
 
-/// Reads nested arrays in the way named by a row.
+/// Reads nested arrays in the way that an example row names.
 pub(crate) fn answer(alloc: Global, how: &str, words: &mut Words) -> Result<(), Reported> {
     match how {
         "deep" => read_deep(alloc, &deep(), words),
@@ -20,14 +21,14 @@ pub(crate) fn answer(alloc: Global, how: &str, words: &mut Words) -> Result<(), 
     }
 }
 
-// Arrays at the maximum depth.
+// Returns the text of nested arrays of the maximum depth.
 fn deep() -> [u8; 2 * MAX_NESTING] {
     let mut text = [b'['; 2 * MAX_NESTING];
     text[MAX_NESTING..].fill(b']');
     text
 }
 
-// Prints the depth, and whether the copy and the written text are the same.
+// Prints the depth of a JSON tree, and whether its copy and its written text are the same.
 fn read_deep(alloc: Global, text: &[u8], words: &mut Words) -> Result<(), Reported> {
     let tree = tree_of(alloc, text)?;
     words.say_number("depth", tree.depth());
@@ -41,7 +42,7 @@ fn compare_copy(alloc: Global, tree: &json::Json, words: &mut Words) -> Result<(
     Ok(())
 }
 
-// The written text follows the word.
+// Prints whether the written text of a JSON tree is the text from which it was read.
 fn compare_text(
     alloc: Global,
     tree: &json::Json,
@@ -78,7 +79,8 @@ fn compare_lexed(alloc: Global, text: &[u8], words: &mut Words) -> Result<(), Re
     Ok(())
 }
 
-// After a failed allocation the lexer must report it again.
+// Reads a JSON tree byte by byte. After a failed allocation the lexer must report the failure
+// again.
 fn lexed(alloc: Global, text: &[u8]) -> Result<json::Json, Reported> {
     let mut lexer = Lexer::new(alloc);
     for byte in text {

@@ -1,11 +1,11 @@
-//! Numbers, as texts and in thousandths.
+//! Example rows that read decimal numbers into thousandths and write them again.
 
 use crate::outcome::Reported;
 use crate::words::Words;
 use arrayvec::ArrayString;
 use mes_model_schema::fixed::{NumFault, Thousandths};
 
-/// Reads numbers, and prints each in thousandths and as written again, or its error.
+/// Reads numbers, and prints each in thousandths and as it is written, or the error in its text.
 pub(crate) fn tell_numbers(texts: &str, words: &mut Words) -> Result<(), Reported> {
     for text in texts.split(' ') {
         tell_number(text, words);

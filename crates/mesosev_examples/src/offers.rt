@@ -1,4 +1,5 @@
-//! An offer as a text that does not allocate: all members, in the order of their tables.
+//! An offer as a text that does not allocate: all members of the JSON object, in the order of the
+//! offer's table of members.
 
 use crate::words::Words;
 use arrayvec::ArrayString;
@@ -50,7 +51,7 @@ fn add_resources(words: &mut Words, resources: &[Resource]) {
     }
 }
 
-// The name, and the other members in braces.
+// Appends a resource: its name, and its other members in braces.
 fn add_resource(words: &mut Words, resource: &Resource) {
     add_member(words, "resource", resource.name.as_str());
     words.add("{");
@@ -101,7 +102,7 @@ fn add_set(words: &mut Words, set: &Set) {
     }
 }
 
-// `-` is an allocation without a role.
+// Appends an allocation, if any: its role, or `-` without a role.
 fn add_allocation(words: &mut Words, allocation: Option<&Allocation>) {
     if let Some(allocation) = allocation {
         add_member(words, "allocated", text_or_none(allocation.role.as_ref()));
@@ -115,7 +116,7 @@ fn text_or_none(text: Option<&Text>) -> &str {
     }
 }
 
-// The older form first, then the reservations from the outermost role inwards.
+// Appends the reservation in the older form, then the reservations from the outermost role inwards.
 fn add_reservations(words: &mut Words, resource: &Resource) {
     if let Some(reservation) = &resource.reservation {
         add_reservation(words, "reservation", reservation.get());
@@ -167,7 +168,7 @@ fn add_kept(words: &mut Words, kept: &Kept) {
     }
 }
 
-// A list and an object are represented by their depth.
+// Appends a JSON value. A list or an object is represented by its depth.
 fn add_json(words: &mut Words, value: &Json) {
     match value {
         Json::Null => words.add_word("null"),

@@ -1,4 +1,4 @@
-//! Errors of the libraries, as texts.
+//! The errors of the libraries as texts, and failed allocations, which are kept apart.
 
 use crate::words::Words;
 use arrayvec::ArrayString;
@@ -17,7 +17,7 @@ pub(crate) enum Reported {
     NoMemory,
     /// An allocation failed after this number of bytes of input.
     NoMemoryAfter(u64),
-    /// An allocation failed at the entry of this number, from 1.
+    /// An allocation failed at the log entry with this number, counted from 1.
     NoMemoryIn(u64),
     /// Another error, as text.
     Fault(Words),
@@ -31,7 +31,7 @@ impl Reported {
         Reported::Fault(words)
     }
 
-    /// Returns the error itself if the call changed nothing, else an error that says so.
+    /// Returns the same error if the call changed nothing, else an error which says that it did.
     pub(crate) fn or_changed(self, is_unchanged: bool) -> Reported {
         if is_unchanged {
             return self;
@@ -134,7 +134,7 @@ impl From<MasterRefusal> for Reported {
     }
 }
 
-/// Converts the error of a stream or a log at offset `used`.
+/// Converts the error in a stream or a log, which was detected after `used` bytes.
 pub(crate) fn fault_behind(fault: &Fault, used: u64) -> Reported {
     if matches!(fault, Fault::NoMemory) {
         return Reported::NoMemoryAfter(used);
@@ -144,7 +144,7 @@ pub(crate) fn fault_behind(fault: &Fault, used: u64) -> Reported {
     Reported::fault(line.as_str())
 }
 
-/// Converts the rejection of a log's entry, after `before` entries.
+/// Converts the reason for which a session rejects a log entry, after `before` entries.
 pub(crate) fn refusal_behind(refusal: &Refusal, before: u64) -> Reported {
     if matches!(refusal, Refusal::NoMemory) {
         return Reported::NoMemoryIn(before.saturating_add(1));

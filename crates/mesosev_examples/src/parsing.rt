@@ -1,4 +1,4 @@
-//! Calls whose value is dropped after use, and that are repeated once if an allocation fails.
+//! Functions that drop a value after its use, and that repeat a call once if an allocation fails.
 
 use crate::outcome::Reported;
 use crate::words::Words;

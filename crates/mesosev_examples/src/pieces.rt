@@ -1,4 +1,4 @@
-//! Chunked bodies decoded in pieces.
+//! Example rows that decode a chunked body in pieces.
 
 use crate::bytes::bytes_of;
 use crate::messages::say_event;
@@ -9,7 +9,7 @@ use mes_msg::{Event, Limit};
 use mes_stream::{Decoded, Decoder, Fault, Step};
 use std::alloc::Global;
 
-// A record for a decoder after a failed allocation, which must use no byte.
+// The input of a decoder after a failed allocation, of which the decoder must use no byte.
 const HEARTBEAT: &[u8] = b"20\n{\"type\":\"HEARTBEAT\"}";
 
 // The outcome of one step of a decoder.
@@ -36,8 +36,8 @@ struct Answered {
     more: u64,
 }
 
-/// Decodes the body of a row whole or in pieces of one byte. Prints each event, the steps between
-/// them, and the end.
+/// Decodes the body in an example row, at once or in pieces of one byte. Prints each event, the
+/// number of steps between events, and the end.
 pub(crate) fn answer(alloc: Global, row: &str, words: &mut Words) -> Result<(), Reported> {
     let (how, text) = row.split_once(' ').unwrap_or((row, ""));
     let bytes = bytes_of(text)?;
@@ -49,7 +49,7 @@ pub(crate) fn answer(alloc: Global, row: &str, words: &mut Words) -> Result<(), 
     decode(alloc, bytes.as_slice(), most, words)
 }
 
-// `most` is the size of a piece in bytes.
+// Decodes a body in pieces of at most `most` bytes.
 fn decode(alloc: Global, body: &[u8], most: usize, words: &mut Words) -> Result<(), Reported> {
     let mut decoder = Decoder::new(alloc, Limit::USUAL);
     take_all(alloc, &mut decoder, body, most, words)
@@ -71,7 +71,7 @@ fn take_all(
     answered.end(decoder, words)
 }
 
-// Returns whether the decoder needs more input.
+// Decodes a piece. Returns whether the decoder needs more input.
 fn take(
     alloc: Global,
     decoder: &mut Decoder,
@@ -94,7 +94,8 @@ fn take(
     Ok(true)
 }
 
-// Prints the result. Returns the number of bytes used too.
+// Performs one step of the decoder and prints its result. Returns the number of bytes used and the
+// outcome.
 fn next(
     alloc: Global,
     decoder: &mut Decoder,
@@ -118,13 +119,14 @@ fn front_of(step: &Step<Event>) -> Front {
     }
 }
 
-// A failed allocation after `used` bytes; the last step must have used some, and the decoder must
-// report the failure again.
+// Returns the error of a failed allocation after `used` bytes. The last step must have used a byte,
+// and the decoder must report the failure again.
 fn refusal_at(decoder: &mut Decoder, used: u64, used_last: usize) -> Reported {
     Reported::NoMemoryAfter(used).or_changed(used_last > 0 && is_refused_again(decoder))
 }
 
-// The decoder must use no byte, and buffer none.
+// Returns whether the decoder reports the failed allocation again, uses no byte and buffers no
+// byte.
 fn is_refused_again(decoder: &mut Decoder) -> bool {
     is_refusal(&decoder.next(HEARTBEAT))
         && matches!(decoder.finish(), Err(Fault::NoMemory))
@@ -136,8 +138,8 @@ fn is_refusal(step: &Step<Event>) -> bool {
 }
 
 impl Answered {
-    // Adds the bytes of a step, and prints its result, unless it needs more input or an allocation
-    // failed.
+    // Adds the bytes that a step used, and prints the result of the step, unless the decoder needs
+    // more input or an allocation failed.
     fn add(
         &mut self,
         alloc: Global,
@@ -167,7 +169,7 @@ impl Answered {
         self.more = 0;
     }
 
-    // The canonical text, and the offset of the event's end.
+    // Prints the canonical text of an event, and the offset of the event's end.
     fn report_event(
         &mut self,
         alloc: Global,
@@ -186,7 +188,7 @@ impl Answered {
         words.say_number("end at", self.used);
     }
 
-    // Ends the row.
+    // Returns the error that ends the example row.
     fn fault(&mut self, fault: &Fault, words: &mut Words) -> Reported {
         self.tell_more(words);
         fault_behind(fault, self.used)

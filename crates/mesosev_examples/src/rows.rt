@@ -1,8 +1,9 @@
-//! The rows: a name on each line, and after ` => ` what it runs. In streams, heads and logs `|`
-//! represents CR LF and `~` LF. The steps of sessions and masters are separated by `; `.
+//! The example rows, one on each line: a name, ` => `, and the example to run. In streams, heads
+//! and logs `|` represents CR LF and `~` LF. The steps of sessions and masters are separated by `;
+//! `.
 
-/// All rows. They are one text because checking takes time for each element of an array, but none
-/// for a line of a text.
+/// All example rows. The rows are one text because the proof checker takes time for each element of
+/// an array, but not for a line of a text.
 pub(crate) const ROWS: &str = r#"heartbeat checked => stream plain 20~{"type":"HEARTBEAT"}
 nothing checked => stream plain
 two records => stream plain 20~{"type":"HEARTBEAT"}147~{"type":"UPDATE","update":{"status":{"task_id":{"value":"T1"},"state":"TASK_RUNNING","agent_id":{"value":"A1"},"uuid":"AAECAwQFBgcICQoLDA0ODw=="}}}

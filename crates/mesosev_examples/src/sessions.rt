@@ -1,4 +1,4 @@
-//! Sessions: the events that they receive, the calls that they make, and their state.
+//! Example rows of a session: the events that it receives, the calls that it makes, and its state.
 
 use crate::held::held_by_session;
 use crate::making::make;
@@ -11,14 +11,15 @@ use mes_msg::{Call, Event};
 use mes_session::Session;
 use std::alloc::Global;
 
-/// Performs the steps of a row on a new session.
+/// Performs the steps of an example row on a new session.
 pub(crate) fn run(alloc: Global, steps: &str, words: &mut Words) -> Result<(), Reported> {
     change(Session::new(alloc), |session| {
         do_steps(alloc, session, steps, words)
     })
 }
 
-// A rejected step is printed, and the row goes on; a failed allocation ends the row.
+// If a step is rejected, prints the reason and goes on with the next step. A failed allocation ends
+// the example row.
 fn do_steps(
     alloc: Global,
     session: &mut Session,
@@ -32,7 +33,7 @@ fn do_steps(
     Ok(())
 }
 
-// Applies an event, makes a call, or prints the state.
+// Performs one step: applies an event, makes a call, or prints the state.
 fn do_step(
     alloc: Global,
     session: &mut Session,
@@ -59,12 +60,12 @@ fn hear(
     hear_event(session, &event, words)
 }
 
-// Repeats the call once if an allocation fails.
+// Applies an event, and repeats this once if an allocation fails.
 fn hear_event(session: &mut Session, event: &Event, words: &mut Words) -> Result<(), Reported> {
     ask_twice(|| hear_once(session, event), words)
 }
 
-// After an error every getter must return the same as before.
+// After an error, every getter of the session must return the same as before the call.
 fn hear_once(session: &mut Session, event: &Event) -> Result<(), Reported> {
     let before = held_by_session(session);
     match session.heard(event) {
@@ -94,7 +95,7 @@ fn tell_made(
     look_at(made, |call| say_call(alloc, call, words))
 }
 
-// Repeats the call once if an allocation fails.
+// Has the session make a call, and repeats this once if an allocation fails.
 fn make_call(
     alloc: Global,
     session: &mut Session,
@@ -104,7 +105,7 @@ fn make_call(
     ask_twice(|| make_once(alloc, session, like), words)
 }
 
-// After an error every getter must return the same as before.
+// After an error, every getter of the session must return the same as before the call.
 fn make_once(alloc: Global, session: &mut Session, like: &Call) -> Result<Call, Reported> {
     let before = held_by_session(session);
     match make(alloc, session, like) {

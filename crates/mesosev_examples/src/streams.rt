@@ -1,4 +1,4 @@
-//! Plain RecordIO and chunked bodies, read from a device.
+//! Example rows that read plain RecordIO or a chunked body from a device.
 
 use crate::bytes::bytes_of;
 use crate::messages::say_event;
@@ -12,7 +12,7 @@ use mes_stream::{
 };
 use std::alloc::Global;
 
-// The framing, the largest record in bytes, and the maximum number of reads.
+// How a stream is read: the framing, the record limit in bytes, and the maximum number of reads.
 #[derive(Clone, Copy)]
 struct Reading {
     framing: Framing,
@@ -34,7 +34,7 @@ const CHUNKED: Reading = Reading {
     max_reads: 1_000,
 };
 
-/// Reads the bytes of a row in the way named by its first word.
+/// Reads the bytes in an example row, in the way that the row's first word names.
 pub(crate) fn answer(alloc: Global, row: &str, words: &mut Words) -> Result<(), Reported> {
     let (how, text) = row.split_once(' ').unwrap_or((row, ""));
     let bytes = bytes_of(text)?;
@@ -123,14 +123,14 @@ fn tell_report(count: u64, report: &Report, words: &mut Words) {
     }
 }
 
-// One byte above the maximum of a chunk line.
+// Reads a chunk line that is one byte longer than the maximum.
 fn read_long_line(alloc: Global, words: &mut Words) -> Result<(), Reported> {
     let mut line = [b'a'; MAX_CHUNK_LINE as usize + 1];
     line[..2].copy_from_slice(b"1;");
     read(alloc, CHUNKED, &line, words)
 }
 
-// One byte above the maximum of the trailers, after the last chunk's line.
+// Reads trailers, after the last chunk, that are one byte longer than the maximum.
 fn read_long_trailers(alloc: Global, words: &mut Words) -> Result<(), Reported> {
     let mut body = [b'a'; MAX_TRAILERS as usize + 4];
     body[..3].copy_from_slice(b"0\r\n");

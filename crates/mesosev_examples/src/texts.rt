@@ -1,6 +1,6 @@
-//! Texts that rows refer to by name.
+//! Texts to which the example rows refer by name.
 
-// The framework is F1.
+// The SUBSCRIBED event of the framework F1.
 const SUBSCRIBED: &str = r#"{"type":"SUBSCRIBED","subscribed":{"framework_id":{"value":"F1"}}}"#;
 
 // An offer without resources.
@@ -34,11 +34,11 @@ const ACCEPT: &str =
 const FULL: &str =
     r#"{"type":"OFFERS","offers":{"offers":[{"id":{"value":"offer-of-a-long-identifier"},"framework_id":{"value":"F1"},"agent_id":{"value":"agent-of-a-long-identifier"},"hostname":"host-of-a-long-name","resources":[{"name":"cpus","type":"SCALAR","scalar":{"value":1.5},"role":"*"},{"name":"ports","type":"RANGES","ranges":{"range":[{"begin":1,"end":2},{"begin":31000,"end":32000}]},"allocation_info":{"role":"web"},"revocable":{}},{"name":"disk","type":"SET","set":{"item":["a","b"]},"reservation":{"role":"web","principal":"p"},"reservations":[{"type":"DYNAMIC","role":"web","principal":"p","labels":{"labels":[{"key":"k","value":"v"},{"key":"l"}]}}],"disk":{"volume":0.10,"source":{"type":"PATH"}},"shared":{},"provider_id":{"value":"P1"}}],"attributes":[{"name":"weight","type":"SCALAR","scalar":{"value":2}},{"name":"racks","type":"RANGES","ranges":{"range":[{"begin":3,"end":4}]}},{"name":"zones","type":"SET","set":{"item":["z"]}},{"name":"floor","type":"TEXT","text":{"value":"first"}}],"executor_ids":[{"value":"E1"},{"value":"E2"}],"allocation_info":{}}]}}"#;
 
-// The offer of `OFFER` again, on another host, and one more.
+// The offer of `OFFER` again, on another host, and another offer.
 const TWO_OFFERS: &str =
     r#"{"type":"OFFERS","offers":{"offers":[{"id":{"value":"O1"},"framework_id":{"value":"F1"},"agent_id":{"value":"A1"},"hostname":"i"},{"id":{"value":"O2"},"framework_id":{"value":"F1"},"agent_id":{"value":"A2"},"hostname":"j"}]}}"#;
 
-// An offer with another identifier.
+// An offer with another identifier than that of `OFFER`.
 const OTHER_OFFER: &str =
     r#"{"type":"OFFERS","offers":{"offers":[{"id":{"value":"O3"},"framework_id":{"value":"F1"},"agent_id":{"value":"A3"},"hostname":"k"}]}}"#;
 

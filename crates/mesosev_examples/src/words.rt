@@ -1,20 +1,20 @@
-//! Text of a row's result.
+//! The text of the result of an example row.
 
 use crate::outcome::Reported;
 use arrayvec::ArrayString;
 use itoa::Buffer;
 
-// The capacity in bytes.
+// The capacity of the text of a result, in bytes.
 const WORDS_MOST: usize = 16_384;
 
-/// The result of a row: parts separated by `, `.
+/// The result of an example row: parts separated by `, `.
 ///
-/// Does not allocate, so that each growth of the heap belongs to the call under test. A part
-/// without space is left out; the row's line then says so.
+/// Does not allocate, so that each allocation belongs to the call under test. A part for which
+/// there is no space is left out; the printed line then says so.
 #[derive(Drop)]
 pub(crate) struct Words {
     text: ArrayString<WORDS_MOST>,
-    // Whether a part had no space.
+    // True if a part was left out because there was no space.
     is_cut: bool,
 }
 
@@ -32,7 +32,7 @@ impl Words {
         self.text.as_str()
     }
 
-    /// Returns the end of a row's line: ` cut off` if a part had no space, else nothing.
+    /// Returns the end of the printed line: ` cut off` if a part was left out, else nothing.
     pub(crate) fn ending(&self) -> &'static str {
         if self.is_cut { " cut off" } else { "" }
     }
@@ -79,7 +79,7 @@ impl Words {
         self.add_bytes(bytes);
     }
 
-    /// Appends the error of a row, if any. Returns whether an allocation failed.
+    /// Appends the error of an example row, if any. Returns whether an allocation failed.
     pub(crate) fn say_answer(&mut self, answer: Result<(), Reported>) -> bool {
         match answer {
             Ok(()) => false,
@@ -102,7 +102,8 @@ impl Words {
         }
     }
 
-    /// Appends the error of a step, so that the row goes on; returns a failed allocation.
+    /// Appends the error of a step and returns `Ok`, so that the next step follows; a failed
+    /// allocation is returned as an error.
     pub(crate) fn go_on(&mut self, answer: Result<(), Reported>) -> Result<(), Reported> {
         match answer {
             Err(Reported::Fault(fault)) => {
@@ -113,8 +114,9 @@ impl Words {
         }
     }
 
-    /// Goes on after a part for which an allocation failed, or not. If it did, the row is repeated
-    /// after `next`.
+    /// Returns `next`, the result of the next part of an example row. If an allocation failed in
+    /// the part before it, appends the error in `next` and returns `NoMemory`, so that the row is
+    /// repeated.
     pub(crate) fn go_on_behind(
         &mut self,
         was_refused: bool,

@@ -1,4 +1,4 @@
-//! Events, chunks, calls and heads that are written.
+//! Example rows that write events, chunks, calls and HTTP heads.
 
 use crate::bytes::{Bytes, bytes_of};
 use crate::messages::call_of;
@@ -40,7 +40,7 @@ impl Write for Failing {
     }
 }
 
-/// Writes what a row names, and prints the bytes that were written.
+/// Writes the event, call or head that an example row names, and prints the written bytes.
 pub(crate) fn answer(alloc: Global, row: &str, words: &mut Words) -> Result<(), Reported> {
     let (what, text) = row.split_once(' ').unwrap_or((row, ""));
     match what {
@@ -56,7 +56,7 @@ pub(crate) fn answer(alloc: Global, row: &str, words: &mut Words) -> Result<(), 
     }
 }
 
-/// Prints the bytes that were written. If an allocation failed, there must be none.
+/// Prints the bytes that were written. If an allocation failed, no byte must have been written.
 pub(crate) fn tell_sent(
     answer: Result<(), SendFault>,
     written: &Bytes,
@@ -78,7 +78,7 @@ fn write_heartbeat(alloc: Global, words: &mut Words) -> Result<(), Reported> {
     tell_sent(answer, &written, words)
 }
 
-// In chunks of one byte.
+// Writes a HEARTBEAT as a chunked body with chunks of one byte.
 fn write_chunks(alloc: Global, words: &mut Words) -> Result<(), Reported> {
     let mut written = Bytes::new();
     let mut sink = FromStd::new(&mut written);
@@ -104,7 +104,7 @@ fn write_call_to(alloc: Global, call: &Call, written: &mut Bytes) -> Result<(), 
     write_call(alloc, &mut sink, HOST, id.as_ref(), call)
 }
 
-// The body is one chunk.
+// Writes a chunked body of one chunk to a writer that fails.
 fn write_to_failing(text: &str, words: &mut Words) -> Result<(), Reported> {
     let bytes = bytes_of(text)?;
     let mut failing = Failing {
@@ -117,7 +117,7 @@ fn write_to_failing(text: &str, words: &mut Words) -> Result<(), Reported> {
     Ok(())
 }
 
-// The number of bytes that were sent, and the reason for which no more were.
+// Prints the number of bytes that were sent, and the reason for which no more bytes were sent.
 fn tell_stopped(answer: Result<(), WriteFault>, words: &mut Words) {
     if let Err(fault) = answer {
         words.say_number("sent", fault.sent);
@@ -128,7 +128,7 @@ fn tell_stopped(answer: Result<(), WriteFault>, words: &mut Words) {
     }
 }
 
-// Does not allocate.
+// Writes the head of a response. Does not allocate.
 fn write_stream_head(words: &mut Words) -> Result<(), Reported> {
     let Some(id) = StreamId::new(STREAM) else {
         return Err(Reported::fault("no id"));
@@ -141,7 +141,7 @@ fn write_stream_head(words: &mut Words) -> Result<(), Reported> {
     Ok(())
 }
 
-// Does not allocate.
+// Writes the head of a response. Does not allocate.
 fn write_answer_head(words: &mut Words) {
     let mut written = Bytes::new();
     let mut sink = FromStd::new(&mut written);

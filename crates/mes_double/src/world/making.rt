@@ -1,4 +1,4 @@
-//! How a world makes a move.
+//! The effect of each move on a world.
 ghost use Rattle.std.specs.Prelude.{◌≡◌, ◌++◌, [], ◌∷◌, slice_get, option_copied, None, Some, IsOk, IsSome, IfSome, IfNone, IfOk, OnOk, OnErr, IsErr, true};
 ghost use Rattle.mes_msg.specs.declared.entry.Entry.TheVariants.{Heard};
 ghost use Rattle.mes_session_state.specs.Refusals.{Answers};
@@ -47,7 +47,7 @@ impl World {
         self.skipped += 1;
     }
 
-    // ---- events of the master
+    // ---- moves in which the master sends an event
 
     fn push(&mut self, event: Event) -> Result<(), NoMemory>
         ensures { OnOk result (self.new
@@ -57,7 +57,7 @@ impl World {
         Ok(())
     }
 
-    /// Counts a refusal of the master (M1 to M5) as skipped; returns M6 as an error.
+    /// Counts a move that the master refuses (M1 to M5) as skipped; returns `NoMemory` for M6.
     fn skip_for(&mut self, why: MasterRefusal) -> Result<(), NoMemory>
         requires { HasRoom self.old }
         ensures ok { OnOk result (self.new ≡ skip self.old) }
@@ -120,7 +120,7 @@ impl World {
         }
     }
 
-    // ---- events received and calls sent by the session
+    // ---- moves in which the session receives an event or sends a call
 
     fn hear(&mut self) -> Result<(), NoMemory>
         requires { HasRoom self.old }
@@ -190,7 +190,7 @@ impl World {
         Ok(())
     }
 
-    // ---- calls received by the master
+    // ---- moves in which the master receives a call
 
     /// The master receives the call that was sent at an index.
     fn arrive(&mut self, index: usize) -> Result<(), NoMemory>
@@ -210,7 +210,8 @@ impl World {
         }
     }
 
-    /// Queues the events of a response, or counts a refusal.
+    /// Queues the events of a response with status 200 or 202; counts the move as skipped for any
+    /// other status.
     fn answered(&mut self, answer: Answer) -> Result<(), NoMemory>
         requires { HasRoom self.old }
         ensures ok { OnOk result (self.new ≡ taking self.old answer.status answer.events.items) }
@@ -245,7 +246,8 @@ impl World {
         Ok(())
     }
 
-    /// Disconnects the session's stream and replaces the queue if a SUBSCRIBE was carried out.
+    /// If the response to a SUBSCRIBE has status 200 or 202, disconnects the session's stream and
+    /// replaces the queue by the events of the response; otherwise counts the move as skipped.
     fn reopen(&mut self, answer: Answer)
         requires { HasRoom self.old }
         ensures { self.new ≡ reopening self.old answer.status answer.events.items }
@@ -295,7 +297,7 @@ fn push_all(waiting: &mut Vec<Event>, events: Vec<Event>) -> Result<(), NoMemory
     Ok(())
 }
 
-/// Returns whether a response with this status carried a call out.
+/// Returns whether the status, 200 or 202, is that of a call that was carried out.
 fn is_done(status: StatusCode) -> bool
     ensures { result ≡ is_done status }
 {

@@ -19,8 +19,8 @@ use mes_msg::{Acknowledge, Call, Operation};
 use mes_session_state::OutstandingOffers;
 
 impl Master {
-    /// Handles a call that names this stream, or none, and returns the status and the events of the
-    /// response.
+    /// Handles a call that names `stream`, or no stream, and returns the status and the events of
+    /// the response.
     ///
     /// A SUBSCRIBE gets 403 after a TEARDOWN, from another framework, or if no stream id is left.
     /// Otherwise it gets 200: the next id becomes the current stream, and no offer is outstanding.
@@ -32,7 +32,8 @@ impl Master {
     /// status would have been 200, or 202 for an ACKNOWLEDGE, a RECONCILE, or an ACCEPT whose
     /// offers are all outstanding.
     pub fn handle(&mut self, call: &Call, stream: Option<&StreamId>) -> Result<Answer, NoMemory>
-        // On success: the response and the state of the definition `handled`.
+        // On success: the response and the new state are those that the definition `handled`
+        // states.
         ensures ok { IfOk result (λ a. IsAnswer
             (handled self.old call.now (option_copied stream.entry)) a.status a.events.items
             self.new) }
@@ -131,7 +132,7 @@ impl Master {
         Answer::plain(self.alloc, StatusCode::ACCEPTED)
     }
 
-    /// Handles an ACKNOWLEDGE: records the key if there is an update with it.
+    /// Handles an ACKNOWLEDGE: records the key, if an update with this key was sent.
     fn acknowledge(&mut self, body: &Acknowledge) -> Result<Answer, NoMemory>
         ensures ok { IfOk result (λ a. IsAnswer
             (plain 202 (acknowledged self.old (key_in body.now))) a.status a.events.items
@@ -145,7 +146,7 @@ impl Master {
         Ok(Answer::plain(self.alloc, StatusCode::ACCEPTED))
     }
 
-    /// Handles a RECONCILE: returns the last statuses of the tasks.
+    /// Handles a RECONCILE: returns an UPDATE of the last status of each task that it asks for.
     fn reconcile(&self, tasks: &[TaskRef]) -> Result<Answer, NoMemory>
         ensures { IfOk result (λ a. IsAnswer (reconciled self.now tasks.now) a.status a.events.items
             self.now) }
@@ -191,7 +192,7 @@ fn are_there(offers: &OutstandingOffers, ids: &[Id]) -> bool
     ids.iter().all(|id| is_there(offers, id))
 }
 
-/// Returns whether the framework is absent or this one.
+/// Returns whether `other` is absent or the same framework as `framework`.
 fn agrees(framework: &Id, other: Option<&Id>) -> bool
     ensures { result ≡ agrees framework.now (option_copied other.entry) }
 {
@@ -226,7 +227,7 @@ fn is_subscribe(call: &Call) -> bool
     matches!(call, Call::Subscribe { .. })
 }
 
-/// Returns whether the call names the current stream.
+/// Returns whether `given`, the stream that a call names, is the current stream.
 fn is_named(current: &StreamId, given: Option<&StreamId>) -> bool
     ensures { result ≡ is_named current.now (option_copied given.entry) }
 {

@@ -55,7 +55,7 @@ impl Master {
         }
     }
 
-    /// Returns the reason, M1 or M2, if these offers cannot be made. Does not allocate.
+    /// Returns M1 or M2 if these offers cannot be made, else `None`. Does not allocate.
     fn refusal_of(&self, offers: &[Offer]) -> Option<MasterRefusal>
         ensures none { IfNone result (IsSome self.now.stream
             × (is_duplicate self.now.offered (offer_ids offers.now) ≡ false)) }
@@ -109,9 +109,9 @@ impl Master {
         Ok(Event::Rescind(Rescind { offer_id }))
     }
 
-    /// Returns the UPDATE of a status, which becomes the last of its task. Errors: no stream (M1),
-    /// a repeated update (M4), out of memory (M6); nothing is then changed. M6 may occur instead of
-    /// M4.
+    /// Returns the UPDATE of a status, which becomes the last status of its task. Errors: no stream
+    /// (M1), a repeated update (M4), out of memory (M6); nothing is then changed. M6 may occur
+    /// instead of M4.
     pub fn update(&mut self, status: &TaskStatus) -> Result<Event, MasterRefusal>
         ensures ok { IfOk result (λ event. update_sent self.old status.now ≡ Ok (event, self.new)) }
         // Each error: out of memory, or the refusal in the definition `update_sent`; nothing is
@@ -151,8 +151,9 @@ impl Master {
         Ok(record_update(self.alloc, &mut self.latest, &mut self.owing, key, status)?)
     }
 
-    /// Returns again the UPDATE at an index among the unacknowledged ones. Errors: no stream (M1),
-    /// no such update (M5), out of memory (M6). M6 occurs only if there is such an update.
+    /// Returns again the UPDATE at an index in the list of unacknowledged updates. Errors: no
+    /// stream (M1), no such update (M5), out of memory (M6). M6 occurs only if there is such an
+    /// update.
     pub fn resend(&self, index: usize) -> Result<Event, MasterRefusal>
         ensures ok { IfOk result (λ event. resend_sent self.now index ≡ Ok (event, self.now)) }
         // Each error: out of memory, or the refusal in the definition `resend_sent`.

@@ -4,7 +4,7 @@ use Rattle.indexmap.specs.IndexSet.{spare, insert_all}
 use Rattle.mes_double_master_state.specs.Ids.{same_id}
 use Rattle.mes_double_master_state.proofs.ids.put_ids.Given as goal
 
--- the remaining identifiers fit the capacity, and adding them gives the result of adding all
+-- the spare capacity suffices for the identifiers that remain; adding them gives the final set
 abbrev pub invariant-loop-id : goal.invariant-loop-id
 invariant-loop-id l =
     (goal.iterator-loop-id).can_next l.id-iterator

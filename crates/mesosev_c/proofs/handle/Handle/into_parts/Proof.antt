@@ -1,4 +1,4 @@
--- `into_parts` moves two fields, and what they own goes with them.
+-- Proof of `Handle::into_parts`, which moves two fields together with the memory that they own.
 use mathlib.Core.Path.{refl, sym, subst}
 use mathlib.Core.List.{List, [], ◌∷◌, ◌++◌}
 use seplogic.Ra.Ura.{Ura}

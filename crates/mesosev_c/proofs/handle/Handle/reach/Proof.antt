@@ -1,4 +1,5 @@
--- `reach` lends the decoder that the handle owns, and the handle follows it.
+-- Proof of `Handle::reach`, which lends the decoder. When the borrow ends, the handle has the
+-- changed decoder.
 use mathlib.Core.Path.{◌≡◌, refl}
 use Prim.Native.Nat.{ℕ}
 use mathlib.Core.List.{List, [], ◌∷◌}

@@ -1,4 +1,4 @@
--- `of_parts` moves two fields, and what they own goes with them.
+-- Proof of `Slot::of_parts`, which moves two fields together with the memory that they own.
 use Rattle.std.specs.Prelude.{Some}
 use mathlib.Core.Path.{refl, sym, subst}
 use mathlib.Core.List.{List, [], ◌∷◌, ◌++◌}
