@@ -1,4 +1,4 @@
--- Filters on offers.
+-- Filters on offers, as in an ACCEPT or a DECLINE.
 use Rattle.std.specs.Prelude.{codes}
 use Rattle.std.proofs.Common.{refl}
 use Rattle.mes_model_schema.specs.Kinds.{Kind, Lawful, Returns}
@@ -7,7 +7,7 @@ use Rattle.mes_model_schema.specs.NumberLaws.{lawful_fixed}
 use Rattle.mes_model_schema.specs.Layouts.{Layout, may_have, no_more, ◌⨾⨾◌, laid_out, kind_of, lawful_kind, returns_kind}
 use Rattle.mes_model.specs.declared.filters.Filters.{Filters}
 
--- refuse_seconds: optional, in millionths
+-- the members of filters; refuse_seconds: optional, rounded to millionths
 abbrev pub filters_layout : Layout Filters
 filters_layout =
     laid_out (

@@ -11,7 +11,7 @@ use Rattle.mes_model_resource.specs.Ids.{id, lawful_id}
 use Rattle.mes_model.specs.declared.framework_info.Capability.{Capability}
 use Rattle.mes_model.specs.declared.framework_info.FrameworkInfo.{FrameworkInfo}
 
--- type: optional
+-- the members of a capability; type: optional
 abbrev pub capability_layout : Layout Capability
 capability_layout =
     laid_out (
@@ -30,8 +30,8 @@ pub capability_back : (v : Capability) → capability_layout.rows.table.Back (ca
 unfolding capability
 capability_back v back = returns_kind capability_layout refl v back
 
--- user, name: required; roles, capabilities: lists; others: optional; failover_timeout in
--- millionths
+-- the members of a framework; user, name: required; roles, capabilities: lists; others: optional;
+-- failover_timeout: rounded to millionths
 abbrev pub framework_info_layout : Layout FrameworkInfo
 framework_info_layout =
     laid_out (

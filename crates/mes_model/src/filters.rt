@@ -1,4 +1,4 @@
-//! Filters on offers.
+//! Filters on offers, as in an ACCEPT or a DECLINE.
 
 use mes_model_schema::back::message_reads_back;
 use mes_model_schema::fixed::Micros;
@@ -31,7 +31,7 @@ impl ConstructFrom<<FiltersRows as RowList>::Values> for Filters {
     }
 }
 
-/// The borrowed values of the rows.
+/// Expands to the borrowed values of the members, in the order of the table.
 macro_rules! filters_rows {
     ($of:ident) => {
         pairs!(&$of.refuse_seconds)

@@ -32,7 +32,7 @@ impl ConstructFrom<<CapabilityRows as RowList>::Values> for Capability {
     }
 }
 
-/// The borrowed values of the rows.
+/// Expands to the borrowed values of the members, in the order of the table.
 macro_rules! capability_rows {
     ($of:ident) => {
         pairs!(&$of.kind)
@@ -83,11 +83,11 @@ impl Part for Capability {
 /// The description of a framework (`FrameworkInfo` in mesos.proto).
 #[derive(Debug, Drop)]
 pub struct FrameworkInfo {
-    /// The user that runs its executors and tasks.
+    /// The user that runs the executors and tasks of the framework.
     pub user: Text,
-    /// The name.
+    /// The name of the framework.
     pub name: Text,
-    /// The identifier, once the master assigned one.
+    /// The identifier of the framework, once the master has assigned one.
     pub id: Option<Id>,
     /// The time for which tasks run on without their scheduler, in seconds with six decimals.
     pub failover_timeout: Option<Micros>,
@@ -99,7 +99,7 @@ pub struct FrameworkInfo {
     pub hostname: Option<Text>,
     /// The principal that the framework authenticates as.
     pub principal: Option<Text>,
-    /// The capabilities.
+    /// The capabilities of the framework.
     pub capabilities: List<Capability>,
 }
 
@@ -147,7 +147,7 @@ impl ConstructFrom<<FrameworkInfoRows as RowList>::Values> for FrameworkInfo {
     }
 }
 
-/// The borrowed values of the rows.
+/// Expands to the borrowed values of the members, in the order of the table.
 macro_rules! framework_info_rows {
     ($of:ident) => {
         pairs!(

@@ -1,9 +1,9 @@
 #![tactic(auto)]
 //! The values inside the events and calls of the Apache Mesos v1 scheduler API, in their JSON form
-//! (mesos.proto). Frameworks and filters are here.
+//! (mesos.proto). This crate defines frameworks and the filters on offers.
 //!
-//! The rest is re-exported: resources of `mes_model_resource`, offers of `mes_model_offer`, tasks
-//! of `mes_model_task`, and of `mes_model_schema` the trait `Part`, which each message type
+//! Re-exported are the resources of `mes_model_resource`, the offers of `mes_model_offer`, the
+//! tasks of `mes_model_task`, and the trait `Part` of `mes_model_schema`, which each message type
 //! implements. Reading returns a value, or the path and the reason of the first fault.
 //!
 //! ```ignore

@@ -21,7 +21,7 @@ use Rattle.mes_model_offer.specs.declared.attribute.AttributeValue.{AttributeVal
 use Rattle.mes_model_offer.specs.declared.attribute.AttributeValue.TheVariants.{Scalar as OfScalar, Ranges as OfRanges, Set as OfSet, Text as OfText}
 use Rattle.mes_model_offer.specs.declared.attribute.Attribute.{Attribute}
 
--- the value of the attribute, of one of the types
+-- the value of an attribute, from the value of one of its types
 abbrev pub to_attribute_value : Scalar ⊎ Ranges ⊎ Set ⊎ TextValue ⊎ ⊥ → AttributeValue
 to_attribute_value (inl v) = OfScalar v
 to_attribute_value (inr (inl v)) = OfRanges v
@@ -35,7 +35,8 @@ from_attribute_value (OfRanges v) = inr (inl v)
 from_attribute_value (OfSet v) = inr (inr (inl v))
 from_attribute_value (OfText v) = inr (inr (inr (inl v)))
 
--- type: required, with scalar, ranges, set or text as it says
+-- the members of an attribute's value; type: required; scalar, ranges, set or text: required by
+-- their type
 abbrev pub attribute_value_rows : Table AttributeValue
 attribute_value_rows =
     mapped (typed (
@@ -50,7 +51,7 @@ attribute_value_rows =
     )
     )) to_attribute_value from_attribute_value
 
--- the member names of a value
+-- the member names of an attribute's value
 abbrev pub attribute_value_names : List (List ℕ)
 attribute_value_names = codes "type" ∷ codes "scalar" ∷ codes "ranges" ∷ codes "set" ∷ codes "text" ∷ []
 
@@ -68,7 +69,7 @@ lawful_attribute_value_rows =
     ) refl
     ) to_from_attribute_value
 
--- name and value: required
+-- the members of an attribute; name and those of the value: required
 abbrev pub attribute_layout : Layout Attribute
 attribute_layout =
     laid_out (

@@ -1,4 +1,4 @@
--- The first faults of an attribute and of an offer, row by row in the order of their tables.
+-- The first faults of an attribute and of an offer, member by member in the order of their tables.
 use Rattle.std.specs.Prelude.{codes}
 use Rattle.mes_model_schema.specs.Leaves.{texts}
 use Rattle.mes_model_schema.specs.FirstFaults.{NeedBreaks}
@@ -11,7 +11,8 @@ use Rattle.mes_model_resource.specs.Values.{scalar, ranges, set}
 use Rattle.mes_model_offer.specs.Attributes.{attribute, attribute_value_rows}
 use Rattle.mes_model_offer.specs.TextValues.{text_value}
 
--- type: SCALAR, RANGES, SET or TEXT, with the row of that name; another type is UnknownName
+-- the first fault of the value; type: SCALAR, RANGES, SET or TEXT, each with the required member of
+-- that name in lower case; another type is UnknownName
 abbrev pub OfValues : OfTypes
 OfValues =
     TypeThen (codes "SCALAR") (NeedBreaks scalar (codes "scalar")) (
@@ -24,7 +25,7 @@ OfValues =
     )
     )
 
--- name and value: required
+-- the first fault of an attribute; name and the members of the value: required
 abbrev pub OfAttribute : OfRows
 OfAttribute =
     NeedThen (codes "name") texts (
@@ -33,7 +34,8 @@ OfAttribute =
     )
     )
 
--- resources, attributes, executor_ids: lists; allocation_info: optional; others: required
+-- the first fault of an offer; resources, attributes, executor_ids: lists; allocation_info:
+-- optional; others: required
 abbrev pub OfOffer : OfRows
 OfOffer =
     NeedThen (codes "id") id (

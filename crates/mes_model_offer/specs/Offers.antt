@@ -11,7 +11,8 @@ use Rattle.mes_model_resource.specs.Resources.{resource, lawful_resource}
 use Rattle.mes_model_offer.specs.Attributes.{attribute, lawful_attribute}
 use Rattle.mes_model_offer.specs.declared.offer.Offer.{Offer}
 
--- resources, attributes, executor_ids: lists; allocation_info: optional; others: required
+-- the members of an offer; resources, attributes, executor_ids: lists; allocation_info: optional;
+-- others: required
 abbrev pub offer_layout : Layout Offer
 offer_layout =
     laid_out (

@@ -1,4 +1,4 @@
--- The text of an attribute.
+-- The value of an attribute that is a text.
 use Rattle.std.specs.Prelude.{codes}
 use Rattle.std.proofs.Common.{refl}
 use Rattle.mes_model_schema.specs.Kinds.{Kind, Lawful, Returns}
@@ -7,7 +7,7 @@ use Rattle.mes_model_schema.specs.Layouts.{Layout, needs, no_more, ◌⨾⨾◌,
 use Rattle.mes_model_schema.specs.KindLaws.{lawful_texts}
 use Rattle.mes_model_offer.specs.declared.text_value.TextValue.{TextValue}
 
--- value: required
+-- the members of a text value; value: required
 abbrev pub text_value_layout : Layout TextValue
 text_value_layout =
     laid_out (

@@ -128,9 +128,9 @@ impl Choice for AttributeValue {
 /// An attribute of an agent (`Attribute` in mesos.proto).
 #[derive(Debug, Drop)]
 pub struct Attribute {
-    /// The name.
+    /// The name of the attribute.
     pub name: Text,
-    /// The value: the member `type`, and the member of that type.
+    /// The value: the member `type`, and the member `scalar`, `ranges`, `set` or `text`.
     pub value: AttributeValue,
 }
 
@@ -148,7 +148,7 @@ impl ConstructFrom<<AttributeRows as RowList>::Values> for Attribute {
     }
 }
 
-/// The borrowed values of the rows.
+/// Expands to the borrowed values of the members, in the order of the table.
 macro_rules! attribute_rows {
     ($of:ident) => {
         (RequiredRowRef(&$of.name), TypedRef(&$of.value, ()))

@@ -73,7 +73,7 @@ impl ConstructFrom<<OfferRows as RowList>::Values> for Offer {
     }
 }
 
-/// The borrowed values of the rows.
+/// Expands to the borrowed values of the members, in the order of the table.
 macro_rules! offer_rows {
     ($of:ident) => {
         pairs!(

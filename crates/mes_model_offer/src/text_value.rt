@@ -1,4 +1,4 @@
-//! The text of an attribute.
+//! The value of an attribute that is a text.
 
 use mes_model_schema::back::message_reads_back;
 use mes_model_schema::json::{self, Element, NoMemory, Text};
@@ -11,7 +11,7 @@ use std::alloc::Global;
 /// A text (`Value.Text` in mesos.proto).
 #[derive(Debug, Drop)]
 pub struct TextValue {
-    /// The text.
+    /// The text of the attribute.
     pub value: Text,
 }
 
@@ -29,7 +29,7 @@ impl ConstructFrom<<TextValueRows as RowList>::Values> for TextValue {
     }
 }
 
-/// The borrowed values of the rows.
+/// Expands to the borrowed values of the members, in the order of the table.
 macro_rules! text_value_rows {
     ($of:ident) => {
         pairs!(RequiredRowRef(&$of.value))

@@ -1,4 +1,4 @@
--- The first fault of a resource, row by row in the order of its table.
+-- The first fault of a resource, member by member in the order of its table.
 use Rattle.std.specs.Prelude.{codes}
 use Rattle.mes_model_schema.specs.Leaves.{texts, objects}
 use Rattle.mes_model_schema.specs.FirstFaults.{NeedBreaks}
@@ -9,7 +9,8 @@ use Rattle.mes_model_resource.specs.Reservations.{allocation, reservation}
 use Rattle.mes_model_resource.specs.Resources.{resource_value_rows}
 use Rattle.mes_model_resource.specs.Values.{scalar, ranges, set}
 
--- type: SCALAR, RANGES or SET, with the row of that name; another type is UnknownName
+-- the first fault of the value; type: SCALAR, RANGES or SET, each with the required member of that
+-- name in lower case; another type is UnknownName
 abbrev pub OfValues : OfTypes
 OfValues =
     TypeThen (codes "SCALAR") (NeedBreaks scalar (codes "scalar")) (
@@ -20,7 +21,8 @@ OfValues =
     )
     )
 
--- name and value: required; reservations: a list; revocable and shared: flags; others: optional
+-- the first fault of the members; name and those of the value: required; reservations: a list;
+-- revocable and shared: flags; others: optional
 abbrev pub OfResource : OfRows
 OfResource =
     NeedThen (codes "name") texts (

@@ -1,4 +1,4 @@
--- Identifiers.
+-- Identifiers of offers, frameworks, agents, executors, tasks and resource providers.
 use Rattle.std.specs.Prelude.{codes}
 use Rattle.std.proofs.Common.{refl}
 use Rattle.mes_model_schema.specs.Kinds.{Kind, Lawful, Returns}
@@ -7,7 +7,7 @@ use Rattle.mes_model_schema.specs.Layouts.{Layout, needs, no_more, ◌⨾⨾◌,
 use Rattle.mes_model_schema.specs.KindLaws.{lawful_texts}
 use Rattle.mes_model_resource.specs.declared.id.Id.{Id}
 
--- value: required
+-- the members of an identifier; value: required
 abbrev pub id_layout : Layout Id
 id_layout =
     laid_out (

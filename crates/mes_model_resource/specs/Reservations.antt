@@ -9,7 +9,7 @@ use Rattle.mes_model_schema.specs.KindLaws.{lawful_texts}
 use Rattle.mes_model_resource.specs.declared.allocation.Allocation.{Allocation}
 use Rattle.mes_model_resource.specs.declared.reservation.Reservation.{Reservation}
 
--- role: optional
+-- the members of an allocation; role: optional
 abbrev pub allocation_layout : Layout Allocation
 allocation_layout =
     laid_out (
@@ -28,7 +28,7 @@ pub allocation_back : (v : Allocation) → allocation_layout.rows.table.Back (al
 unfolding allocation
 allocation_back v back = returns_kind allocation_layout refl v back
 
--- type, role, principal, labels: optional
+-- the members of a reservation; type, role, principal, labels: optional
 abbrev pub reservation_layout : Layout Reservation
 reservation_layout =
     laid_out (

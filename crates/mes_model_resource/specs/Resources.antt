@@ -21,7 +21,7 @@ use Rattle.mes_model_resource.specs.declared.resource.ResourceValue.{ResourceVal
 use Rattle.mes_model_resource.specs.declared.resource.ResourceValue.TheVariants.{Scalar as OfScalar, Ranges as OfRanges, Set as OfSet}
 use Rattle.mes_model_resource.specs.declared.resource.Resource.{Resource}
 
--- the value of the resource, of one of the types
+-- the value of a resource, from the value of one of its types
 abbrev pub to_resource_value : Scalar ⊎ Ranges ⊎ Set ⊎ ⊥ → ResourceValue
 to_resource_value (inl v) = OfScalar v
 to_resource_value (inr (inl v)) = OfRanges v
@@ -33,7 +33,7 @@ from_resource_value (OfScalar v) = inl v
 from_resource_value (OfRanges v) = inr (inl v)
 from_resource_value (OfSet v) = inr (inr (inl v))
 
--- type: required, with scalar, ranges or set as it says
+-- the members of a resource's value; type: required; scalar, ranges or set: required by their type
 abbrev pub resource_value_rows : Table ResourceValue
 resource_value_rows =
     mapped (typed (
@@ -46,7 +46,7 @@ resource_value_rows =
     )
     )) to_resource_value from_resource_value
 
--- the member names of a value
+-- the member names of a resource's value
 abbrev pub resource_value_names : List (List ℕ)
 resource_value_names = codes "type" ∷ codes "scalar" ∷ codes "ranges" ∷ codes "set" ∷ []
 
@@ -61,7 +61,8 @@ lawful_resource_value_rows =
     lawful_typed (lawful_need lawful_scalar) (lawful_case (lawful_need lawful_ranges) (lawful_case (lawful_need lawful_set) lawful_no_other)) refl
     ) to_from_resource_value
 
--- name and value: required; reservations: a list; revocable and shared: flags; others: optional
+-- the members of a resource; name and those of the value: required; reservations: a list;
+-- revocable and shared: flags; others: optional
 abbrev pub resource_layout : Layout Resource
 resource_layout =
     laid_out (

@@ -12,7 +12,7 @@ use Rattle.mes_model_resource.specs.declared.value.Range.{Range}
 use Rattle.mes_model_resource.specs.declared.value.Ranges.{Ranges}
 use Rattle.mes_model_resource.specs.declared.value.Set.{Set}
 
--- value: required, in thousandths
+-- the members of a scalar; value: required, rounded to thousandths
 abbrev pub scalar_layout : Layout Scalar
 scalar_layout =
     laid_out (
@@ -31,7 +31,7 @@ pub scalar_back : (v : Scalar) → scalar_layout.rows.table.Back (scalar_layout.
 unfolding scalar
 scalar_back v back = returns_kind scalar_layout refl v back
 
--- begin, end: required
+-- the members of a range; begin, end: required
 abbrev pub range_layout : Layout Range
 range_layout =
     laid_out (
@@ -51,7 +51,7 @@ pub range_back : (v : Range) → range_layout.rows.table.Back (range_layout.from
 unfolding range
 range_back v back = returns_kind range_layout refl v back
 
--- range: a list
+-- the members of ranges; range: a list
 abbrev pub ranges_layout : Layout Ranges
 ranges_layout =
     laid_out (
@@ -70,7 +70,7 @@ pub ranges_back : (v : Ranges) → ranges_layout.rows.table.Back (ranges_layout.
 unfolding ranges
 ranges_back v back = returns_kind ranges_layout refl v back
 
--- item: a list
+-- the members of a set; item: a list
 abbrev pub set_layout : Layout Set
 set_layout =
     laid_out (

@@ -11,7 +11,7 @@ use std::alloc::Global;
 /// The role that resources are allocated to (`Resource.AllocationInfo` in mesos.proto).
 #[derive(Debug, Drop)]
 pub struct Allocation {
-    /// The role.
+    /// The role that the resources are allocated to.
     pub role: Option<Text>,
 }
 
@@ -29,7 +29,7 @@ impl ConstructFrom<<AllocationRows as RowList>::Values> for Allocation {
     }
 }
 
-/// The borrowed values of the rows.
+/// Expands to the borrowed values of the members, in the order of the table.
 macro_rules! allocation_rows {
     ($of:ident) => {
         pairs!(&$of.role)

@@ -1,4 +1,5 @@
-//! The law that lists the faults of a resource in order. It has no code.
+//! The law, stated as the contract of an empty function, that lists the faults of a resource in
+//! order.
 
 ghost use Rattle.std.specs.Prelude.{◌↔◌, List};
 ghost use Rattle.mes_model_schema.specs.Tree.{Tree};
@@ -9,7 +10,8 @@ ghost use Rattle.mes_model_schema.specs.declared.field.FieldFault.{FieldFault};
 ghost use Rattle.mes_model_resource.specs.Resources.{resource};
 ghost use Rattle.mes_model_resource.specs.FirstFaults.{OfResource};
 
-/// A resource has a fault if it is not an object, or the first row that is not read has the fault.
+/// A resource has a fault if it is not an object, or a member in its table has a fault. The fault
+/// of the first such member is reported.
 pub fn resource_breaks()
     ensures { (at : List Place) (t : Tree) (f : FieldFault)
         → Breaks resource at t f ↔ OfMessage OfResource at t f }

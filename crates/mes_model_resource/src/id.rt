@@ -1,4 +1,4 @@
-//! Identifiers.
+//! Identifiers of offers, frameworks, agents, executors, tasks and resource providers.
 
 use mes_model_schema::back::message_reads_back;
 use mes_model_schema::json::{self, Element, NoMemory, Text};
@@ -29,7 +29,7 @@ impl ConstructFrom<<IdRows as RowList>::Values> for Id {
     }
 }
 
-/// The borrowed values of the rows.
+/// Expands to the borrowed values of the members, in the order of the table.
 macro_rules! id_rows {
     ($of:ident) => {
         pairs!(RequiredRowRef(&$of.value))

@@ -2,9 +2,9 @@
 //! The resources of agents in the JSON form of the Apache Mesos v1 scheduler API, with identifiers,
 //! values and reservations (mesos.proto).
 //!
-//! Each message type is a `Part` of `mes_model_schema`: read exactly, written as canonical JSON
-//! that is read back, and copied. Reading any other value returns the path and reason of the first
-//! fault.
+//! Each message type implements the trait `Part` of `mes_model_schema`. Its values are read from
+//! JSON, written as canonical JSON that is read back to the same value, and copied. Reading any
+//! other JSON value returns the path and the reason of the first fault.
 //!
 //! ```ignore
 //! let resource = Resource::read(alloc, &json, &Path::new())?; // or: name Missing

@@ -11,7 +11,7 @@ use std::alloc::Global;
 /// A reservation of a resource (`Resource.ReservationInfo` in mesos.proto).
 #[derive(Debug, Drop)]
 pub struct Reservation {
-    /// The member `type`: static or dynamic.
+    /// The member `type`: whether the reservation is static or dynamic.
     pub kind: Option<Text>,
     /// The role that the resource is reserved for.
     pub role: Option<Text>,
@@ -40,7 +40,7 @@ impl ConstructFrom<<ReservationRows as RowList>::Values> for Reservation {
     }
 }
 
-/// The borrowed values of the rows.
+/// Expands to the borrowed values of the members, in the order of the table.
 macro_rules! reservation_rows {
     ($of:ident) => {
         pairs!(

@@ -121,25 +121,25 @@ impl Choice for ResourceValue {
 /// A resource of an agent, such as CPUs, memory or ports (`Resource` in mesos.proto).
 #[derive(Debug, Drop)]
 pub struct Resource {
-    /// The name.
+    /// The name of the resource, such as `cpus`.
     pub name: Text,
-    /// The value: the member `type`, and the member of that type.
+    /// The value: the member `type`, and the member `scalar`, `ranges` or `set`.
     pub value: ResourceValue,
     /// The role that the resource belongs to.
     pub role: Option<Text>,
     /// The role that the resource is allocated to.
     pub allocation_info: Option<Allocation>,
-    /// The reservation in the older form. It is boxed so that a resource is small.
+    /// The reservation in the older form, boxed so that a `Resource` is small.
     pub reservation: Option<Boxed<Reservation>>,
     /// The reservations, from the outermost role inwards.
     pub reservations: List<Reservation>,
-    /// The disk, retained whole, and boxed.
+    /// The disk: a JSON object that is retained with all its members, boxed.
     pub disk: Option<Boxed<Kept>>,
     /// Whether the resource may be revoked at any time.
     pub revocable: bool,
     /// Whether several tasks may use the resource at once.
     pub shared: bool,
-    /// The resource provider, if it is not the agent. It is boxed.
+    /// The resource provider, if it is not the agent, boxed.
     pub provider_id: Option<Boxed<Id>>,
 }
 
@@ -197,7 +197,7 @@ impl ConstructFrom<<ResourceRows as RowList>::Values> for Resource {
     }
 }
 
-/// The borrowed values of the rows.
+/// Expands to the borrowed values of the members, in the order of the table.
 macro_rules! resource_rows {
     ($of:ident) => {
         (

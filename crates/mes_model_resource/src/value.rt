@@ -9,10 +9,10 @@ use mes_model_schema::{
 };
 use std::alloc::Global;
 
-/// A number in thousandths (`Value.Scalar` in mesos.proto).
+/// A decimal number, rounded to thousandths (`Value.Scalar` in mesos.proto).
 #[derive(Debug, Drop)]
 pub struct Scalar {
-    /// The number.
+    /// The number, in thousandths.
     pub value: Thousandths,
 }
 
@@ -30,7 +30,7 @@ impl ConstructFrom<<ScalarRows as RowList>::Values> for Scalar {
     }
 }
 
-/// The borrowed values of the rows.
+/// Expands to the borrowed values of the members, in the order of the table.
 macro_rules! scalar_rows {
     ($of:ident) => {
         pairs!(RequiredRowRef(&$of.value))
@@ -101,7 +101,7 @@ impl ConstructFrom<<RangeRows as RowList>::Values> for Range {
     }
 }
 
-/// The borrowed values of the rows.
+/// Expands to the borrowed values of the members, in the order of the table.
 macro_rules! range_rows {
     ($of:ident) => {
         pairs!(
@@ -152,10 +152,10 @@ impl Part for Range {
     }
 }
 
-/// Ranges in order (`Value.Ranges` in mesos.proto).
+/// A list of ranges of whole numbers, in order (`Value.Ranges` in mesos.proto).
 #[derive(Debug, Drop)]
 pub struct Ranges {
-    /// The ranges.
+    /// The member `range`: the list of ranges.
     pub range: List<Range>,
 }
 
@@ -173,7 +173,7 @@ impl ConstructFrom<<RangesRows as RowList>::Values> for Ranges {
     }
 }
 
-/// The borrowed values of the rows.
+/// Expands to the borrowed values of the members, in the order of the table.
 macro_rules! ranges_rows {
     ($of:ident) => {
         pairs!(&$of.range)
@@ -221,10 +221,10 @@ impl Part for Ranges {
     }
 }
 
-/// Names in order (`Value.Set` in mesos.proto).
+/// A list of names, in order (`Value.Set` in mesos.proto).
 #[derive(Debug, Drop)]
 pub struct Set {
-    /// The names.
+    /// The member `item`: the list of names.
     pub item: List<Text>,
 }
 
@@ -242,7 +242,7 @@ impl ConstructFrom<<SetRows as RowList>::Values> for Set {
     }
 }
 
-/// The borrowed values of the rows.
+/// Expands to the borrowed values of the members, in the order of the table.
 macro_rules! set_rows {
     ($of:ident) => {
         pairs!(&$of.item)

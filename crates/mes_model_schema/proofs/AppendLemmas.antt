@@ -1,9 +1,9 @@
--- Canonical texts appended to bytes.
---     a_string, a_number, a_tree             scalars, and a tree written whole
---     appended_is_text                       the JSON text
---     no_members, one_member, both_members   consecutive members
---     whole_object                           the first comma becomes a brace, and a brace is added
---     no_items, next_item, whole_array       the same for a list
+-- Lemmas about append.rt: the canonical text of a value is appended.
+--     a_string, a_number, a_tree             the text of a string, of a number, of any tree
+--     appended_is_text                       the appended text is a JSON text of the tree
+--     no_members, one_member, both_members   the texts of consecutive members
+--     whole_object                           the text of an object, from the texts of its members
+--     no_items, next_item, whole_array       the same for the items of an array
 use Rattle.std.proofs.Common.{◌≡◌, ℕ, ◌+◌, ◌-◌, ◌^◌, ◌<◌, ◌≤◌, List, [], ◌∷◌, ◌++◌, length, map, take, get_or, refl, sym, ◌∙◌, ap, subst, append_assoc, append-nil, arith}
 use Rattle.std.specs.Prelude.{max}
 use Rattle.std.specs.Str.{IsUtf8}
@@ -22,7 +22,7 @@ use Rattle.mes_model_schema.proofs.ListLemmas.{take_next}
 abbrev pub Pairs : Type 0
 Pairs = List (List ℕ × Tree)
 
--- ---- scalars
+-- ---- the text of a string, of a number, of any tree
 
 pub a_string : (old s new : List ℕ) → new ≡ old ++ quoted_text s → IsUtf8 s → Appends old (string s) new 0
 a_string old s new is utf8 = record { text = is; writable = utf8; nests = omega arith }
@@ -33,12 +33,12 @@ a_number old n new is spelt = record { text = is; writable = spelt; nests = omeg
 pub a_tree : (old : List ℕ) (t : Tree) (new : List ℕ) (deep : ℕ) → new ≡ old ++ canonical t → IsWritable t → deep ≡ counted (depth t) → Appends old t new deep
 a_tree old t new deep is writable nests = record { text = is; writable = writable; nests = nests }
 
--- it is a JSON text, at each nesting limit that is at least its depth
+-- the appended text is a JSON text of the tree, for any nesting limit that is at least its depth
 pub appended_is_text : (t : Tree) (new : List ℕ) (deep most : ℕ) → Appends [] t new deep → deep ≤ most → most < 2 ^ 64 - 1 → IsText most new t
 appended_is_text t new deep most is within few =
     subst (λ (b : List ℕ). IsText most b t) (sym is.text) (canonical_is_text t most is.writable (omega (arith, is.nests, within, few)))
 
--- ---- consecutive members
+-- ---- the texts of consecutive members
 
 members_text : (xs ys : Pairs) → more_members (members_of (xs ++ ys)) ≡ more_members (members_of xs) ++ more_members (members_of ys)
 members_text [] ys = refl
@@ -80,7 +80,7 @@ both_members old xs ys mid new a b most first second is = record {
   nests = omega (arith, is, first.nests, second.nests, members_depth xs ys);
 }
 
--- ---- brackets
+-- ---- the brackets of an object and of an array
 
 object_text : (old : List ℕ) (ms : Pairs) (mid new : List ℕ) → mid ≡ old ++ more_members (members_of ms) → Closes 123 (length old) 125 mid new
     → new ≡ old ++ canonical (object (members_of ms))
@@ -112,7 +112,7 @@ whole_array old ts mid new deep deeper items closed is = record {
   nests = omega (arith, is, items.nests);
 }
 
--- ---- consecutive items
+-- ---- the texts of consecutive items
 
 items_text : (ts : List Tree) (t : Tree) → more_items (items_of (ts ++ t ∷ [])) ≡ more_items (items_of ts) ++ 44 ∷ canonical t
 items_text [] t = ap (λ (b : List ℕ). 44 ∷ b) (append-nil (canonical t))

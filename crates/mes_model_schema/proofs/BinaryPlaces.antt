@@ -1,4 +1,4 @@
--- The result of decoding the text at a place, for the bytes that are read there.
+-- Lemmas: the bytes or the fault of a base64 string, from the result of decoding its text.
 use Rattle.std.proofs.Common.{◌≡◌, ℕ, List, refl, subst}
 use Rattle.std.specs.Prelude.{Ok, Err}
 use Rattle.base64.specs.declared.decode.DecodeError.{DecodeError}

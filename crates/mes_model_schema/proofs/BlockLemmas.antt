@@ -1,4 +1,4 @@
--- The values of sixteen letters are packed into twelve bytes.
+-- Lemmas about base64_blocks.rt: the values of sixteen letters are packed into twelve bytes.
 use Rattle.std.proofs.Common.{◌≡◌, ℕ, zero, suc, ◌+◌, ◌*◌, ◌/◌, ◌%◌, ◌^◌, ◌<◌, ◌≤◌, List, [], ◌∷◌, ◌++◌, map, length, get_or, take, drop, refl, sym, ap, subst, ◌∙◌, arith}
 use Rattle.std.proofs.lemmas.Simd.{get_or_narrower, Each1-get_or, put_chunk_is}
 use Rattle.std.proofs.Math.Seq.{take-add}
@@ -11,9 +11,9 @@ use Rattle.base64.specs.Engines.{standard}
 use Rattle.mes_model_schema.specs.LetterValues.{letter_of, value_of, IsLetter}
 use Rattle.mes_model_schema.proofs.LetterLemmas.{written_front}
 
--- ---- a group
+-- ---- four values are packed into three bytes
 
--- the three bytes of a number of 24 bits, the highest first
+-- the three bytes of a 24-bit number, the highest byte first
 abbrev pub three_of : ℕ → List ℕ
 three_of n = (n / 65536 % 256) ∷ (n / 256 % 256) ∷ (n / 1 % 256) ∷ []
 
@@ -29,14 +29,14 @@ group_of a b c d n la lb lc ld e =
     let e3 : z % 64 ≡ d = omega arith in
     rw (e0, e1, e2, e3) refl
 
--- the result of two dot products and a shift for four values
+-- the 24-bit number of four values, computed with two dot products and a shift as in the code
 abbrev pub joined : ℕ → ℕ → ℕ → ℕ → ℕ
 joined a b c d = (((a * 64 + b * 1) + (c * 0 + d * 0)) * 2 ^ 12 % 2 ^ 32 + ((a * 0 + b * 0) + (c * 64 + d * 1))) % 2 ^ 32
 
 joined_is : (a b c d : ℕ) → a < 64 → b < 64 → c < 64 → d < 64 → joined a b c d ≡ (a * 64 + b) * 4096 + (c * 64 + d)
 joined_is a b c d la lb lc ld = omega arith
 
--- ---- four groups
+-- ---- sixteen values are packed into twelve bytes
 
 twelve : (x0 x1 x2 x3 x4 x5 x6 x7 x8 x9 x10 x11 : ℕ)
     → encode_of standard (x0 ∷ x1 ∷ x2 ∷ x3 ∷ x4 ∷ x5 ∷ x6 ∷ x7 ∷ x8 ∷ x9 ∷ x10 ∷ x11 ∷ [])
@@ -48,11 +48,11 @@ twelve x0 x1 x2 x3 x4 x5 x6 x7 x8 x9 x10 x11 = refl
 four_lists : {p0 p1 p2 p3 q0 q1 q2 q3 : List ℕ} → p0 ≡ q0 → p1 ≡ q1 → p2 ≡ q2 → p3 ≡ q3 → p0 ++ p1 ++ p2 ++ p3 ≡ q0 ++ q1 ++ q2 ++ q3
 four_lists e0 e1 e2 e3 = rw (e0, e1, e2, e3) refl
 
--- the bytes of four numbers, the lowest first
+-- the bytes of four 32-bit numbers, the lowest byte of each first
 abbrev pub bytes_of : List ℕ → List ℕ
 bytes_of ws = digits_l 256 16 (number_l 4294967296 ws)
 
--- the indexes of the bytes that are taken, then of the four that are not
+-- the indexes of the twelve bytes of the result, then of the four unused bytes
 abbrev pub places : List ℕ
 places = 2 ∷ 1 ∷ 0 ∷ 6 ∷ 5 ∷ 4 ∷ 10 ∷ 9 ∷ 8 ∷ 14 ∷ 13 ∷ 12 ∷ 3 ∷ 7 ∷ 11 ∷ 15 ∷ []
 
@@ -60,7 +60,7 @@ twelve_same : {x0 x1 x2 x3 x4 x5 x6 x7 x8 x9 x10 x11 y0 y1 y2 y3 y4 y5 y6 y7 y8 
     → ◌≡◌ {A = List ℕ} (x0 ∷ x1 ∷ x2 ∷ x3 ∷ x4 ∷ x5 ∷ x6 ∷ x7 ∷ x8 ∷ x9 ∷ x10 ∷ x11 ∷ []) (y0 ∷ y1 ∷ y2 ∷ y3 ∷ y4 ∷ y5 ∷ y6 ∷ y7 ∷ y8 ∷ y9 ∷ y10 ∷ y11 ∷ [])
 twelve_same e0 e1 e2 e3 e4 e5 e6 e7 e8 e9 e10 e11 = rw (e0, e1, e2, e3, e4, e5, e6, e7, e8, e9, e10, e11) refl
 
--- the first twelve of the bytes taken
+-- the twelve bytes of the result are three bytes of each number
 pub taken : (w0 w1 w2 w3 : ℕ) → w0 < 4294967296 → w1 < 4294967296 → w2 < 4294967296 → w3 < 4294967296
     → take 12 (pick_l 0 (bytes_of (w0 ∷ w1 ∷ w2 ∷ w3 ∷ [])) places) ≡ three_of w0 ++ three_of w1 ++ three_of w2 ++ three_of w3
 taken w0 w1 w2 w3 l0 l1 l2 l3 =
@@ -73,7 +73,7 @@ taken w0 w1 w2 w3 l0 l1 l2 l3 =
     (at 2 2 (omega arith) (omega arith)) (at 2 1 (omega arith) (omega arith)) (at 2 0 (omega arith) (omega arith))
     (at 3 2 (omega arith) (omega arith)) (at 3 1 (omega arith) (omega arith)) (at 3 0 (omega arith) (omega arith))
 
--- the result of the code for sixteen values
+-- the bytes that the code computes from sixteen values
 abbrev pub packed_lanes : List ℕ → List ℕ
 packed_lanes v =
     pick_l 0
@@ -103,7 +103,7 @@ sixteen a0 a1 a2 a3 a4 a5 a6 a7 a8 a9 a10 a11 a12 a13 a14 a15 l0 l1 l2 l3 l4 l5 
     let all : take 12 (packed_lanes (a0 ∷ a1 ∷ a2 ∷ a3 ∷ a4 ∷ a5 ∷ a6 ∷ a7 ∷ a8 ∷ a9 ∷ a10 ∷ a11 ∷ a12 ∷ a13 ∷ a14 ∷ a15 ∷ [])) ≡ three_of n0 ++ three_of n1 ++ three_of n2 ++ three_of n3 = taken n0 n1 n2 n3 f0 f1 f2 f3 in
     sym (ap (encode_of standard) all ∙ twelve _ _ _ _ _ _ _ _ _ _ _ _ ∙ four_lists g0 g1 g2 g3)
 
--- n elements of a list, from index i on
+-- the n elements of a list from index i on
 abbrev from_place : List ℕ → ℕ → ℕ → List ℕ
 from_place v zero i = []
 from_place v (suc n) i = get_or v i 0 ∷ from_place v n (i + 1)
@@ -118,7 +118,7 @@ block_encodes v long few =
     subst (λ (l : List ℕ). map letter_of l ≡ encode_of standard (take 12 (packed_lanes l))) (sym (all_places v 16 0 (sym long)))
     (sixteen (get_or v 0 0) (get_or v 1 0) (get_or v 2 0) (get_or v 3 0) (get_or v 4 0) (get_or v 5 0) (get_or v 6 0) (get_or v 7 0) (get_or v 8 0) (get_or v 9 0) (get_or v 10 0) (get_or v 11 0) (get_or v 12 0) (get_or v 13 0) (get_or v 14 0) (get_or v 15 0) (at 0 (omega arith)) (at 1 (omega arith)) (at 2 (omega arith)) (at 3 (omega arith)) (at 4 (omega arith)) (at 5 (omega arith)) (at 6 (omega arith)) (at 7 (omega arith)) (at 8 (omega arith)) (at 9 (omega arith)) (at 10 (omega arith)) (at 11 (omega arith)) (at 12 (omega arith)) (at 13 (omega arith)) (at 14 (omega arith)) (at 15 (omega arith)))
 
--- ---- the blocks at the front
+-- ---- blocks are decoded one after another
 
 letters_back : (v : List ℕ) → Each1 IsLetter v → map letter_of (map value_of v) ≡ v
 letters_back [] letters = refl
@@ -128,7 +128,7 @@ values_few : (v : List ℕ) → Each1 IsLetter v → Each1 (λ x. x < 64) (map v
 values_few [] letters = tt
 values_few (x ∷ v) letters = (letters.0.0, values_few v letters.1)
 
--- a block of letters, given its values and the bytes packed from them
+-- a block of letters is the encoding of the bytes that are packed from the values of the letters
 pub letters_encode : (v values bytes : List ℕ) → Each1 IsLetter v → values ≡ map value_of v
     → (Each1 (λ x. x < 64) values → map letter_of values ≡ encode_of standard (take 12 bytes)) → v ≡ encode_of standard (take 12 bytes)
 letters_encode v values bytes letters e packs =

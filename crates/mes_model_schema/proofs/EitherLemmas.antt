@@ -1,4 +1,4 @@
--- A list in either form, by what was found at its place.
+-- Lemmas: a list in either form has the value or the fault of the array or the object found.
 use Rattle.std.proofs.Common.{◌≡◌, ℕ, Bool, true, false, List, Option, Some, None, refl, sym, ◌∙◌, subst, cond}
 use Rattle.std.specs.Option.{is_some}
 use Rattle.std.specs.Prelude.{Result}

@@ -1,4 +1,4 @@
--- The first fault of a message, composed row by row.
+-- Lemmas: the first fault of a message, composed row by row of its table.
 use Rattle.std.proofs.Common.{inl, inr, ◌↔◌, ℕ, List}
 use Rattle.mes_json.specs.Tree.{Tree, Members}
 use Rattle.mes_model_schema.specs.Paths.{Place}
@@ -13,7 +13,7 @@ use Rattle.mes_model_schema.proofs.RowFaults.{need_breaks, maybe_breaks, many_br
 use Rattle.mes_model_schema.specs.declared.field.FieldFault.{FieldFault}
 use Rattle.mes_model_schema.specs.declared.field.FieldFaultKind.{FieldFaultKind}
 
--- ---- rows
+-- ---- the first fault of a row and the rows after it
 
 pub no_rows_have : RowsHave no_rows NoRows
 no_rows_have = record { just = λ at ms f. ((λ e. absurd (cc)), (λ h. absurd h)) }
@@ -34,7 +34,7 @@ then_have {F} {G} {r} {s} {own} {later} lawful first more = record { just = λ a
   from at ms f (inl h) = (both at ms f).1 (inl ((first.just at ms f).1 h))
   from at ms f (inr h) = (both at ms f).1 (inr (h.0, (more.just at ms f).1 h.1))
 
--- rows of one member that are the last ones
+-- the first fault of the last row of a table
 pub one_need : {V : Type 0} (n : List ℕ) (k : Kind V) → RowsHave (need n k) (NeedBreaks k n)
 one_need n k = record { just = need_breaks k n }
 
@@ -62,7 +62,7 @@ mapped_have {F} {G} {r} {rows} to from have = record {
       ((λ e. (have.just at ms f).0 ((mapped_breaks r to from at ms f).0 e)), (λ h. (mapped_breaks r to from at ms f).1 ((have.just at ms f).1 h)));
 }
 
--- ---- the row `type`
+-- ---- the first fault of a typed value
 
 pub type_then : {F G : Type 0} {r : Table F} {rest : Choice G} {own : OfRows} {later : OfTypes} (this : List ℕ) → RowsHave r own → TypesHave rest later
     → TypesHave (case this r rest) (TypeThen this own later)
@@ -104,7 +104,7 @@ by_type {F} {c} {types} have = record { just = λ at ms f. (to at ms f, from at 
   from at ms f (inl h) = (whole at ms f).1 (inl h)
   from at ms f (inr h) = (whole at ms f).1 (inr (h.0, h.1, (have.just at h.0 ms f).1 h.2))
 
--- ---- a message
+-- ---- the first fault of a message
 
 pub message_has : {F : Type 0} {r : Table F} {rows : OfRows} → RowsHave r rows
     → (at : List Place) (t : Tree) (f : FieldFault) → Breaks (message r) at t f ↔ OfMessage rows at t f

@@ -1,4 +1,4 @@
--- The rows of an object are found member by member.
+-- Lemmas about found_rows.rt: the members of an object are found one after another.
 use Rattle.std.proofs.Common.{◌≡◌, ◌||◌, ℕ, zero, suc, ◌<◌, ◌≤◌, inl, inr, set, Bool, true, false, List, [], ◌∷◌, ◌++◌, length, get_or, cond, bytes_eq, Some, None, refl, sym, ◌∙◌, ap, subst, arith, append-nil, append_assoc, length-append}
 use Rattle.std.proofs.lemmas.Grind.{common_steps}
 use Rattle.std.proofs.lemmas.List.{get_or-set_same, get_or-set_other}
@@ -19,7 +19,7 @@ use Rattle.mes_model_schema.specs.declared.field.FieldFaultKind.TheVariants.{Wro
 use Rattle.mes_model_schema.specs.declared.found_rows.Found.{Found}
 use Rattle.mes_model_schema.specs.declared.found_rows.Found.TheVariants.{Nothing, One, More}
 
--- ---- the members of a place
+-- ---- a tree is an object or not
 
 pub members_found : (xs : List Token) (t : Tree) → FindsMembers (Some xs) (as_members t) → (t ≡ object (members_in t)) × BeginsMembers xs (members_in t)
 members_found xs null h = absurd h
@@ -37,9 +37,9 @@ no_members_found at (string s) h = refl
 no_members_found at (array ts) h = refl
 no_members_found at (object ms) h = absurd h
 
--- ---- one name
+-- ---- the members of one name
 
--- the values found so far are all but the rest
+-- the values found so far, followed by the remaining values, are all values
 abbrev pub Follows : Found → List Tree → List Tree → Type 0
 Follows f all rest = (ts : List Tree) × IsFound f ts × (all ≡ ts ++ rest)
 
@@ -56,9 +56,9 @@ follows_test false f all rest e t b h = h
 follows_end : (f : Found) (all : List Tree) → Follows f all [] → IsFound f all
 follows_end f all (ts, h, is) = subst (IsFound f) (sym (is ∙ append-nil ts)) h
 
--- ---- all names
+-- ---- the members of all names
 
--- under each name, the members found so far are all but the rest
+-- under each name, the values found so far, followed by the remaining values, are all values
 abbrev pub FollowEach : List Found → List (List ℕ) → Members → Members → Type 0
 FollowEach fs names ms rest =
     (i : ℕ) → i < length names → Follows (get_or fs i Nothing) (values_named (get_or names i []) ms) (values_named (get_or names i []) rest)
@@ -86,7 +86,7 @@ pub follow_each_last : (fs : List Found) (names : List (List ℕ)) (ms rest : Me
 follow_each_last fs names ms no_members following next each i inside = follows_end (get_or fs i Nothing) _ (each i inside)
 follow_each_last fs names ms (member m t others) following next each i inside = absurd next
 
--- ---- names that occur once
+-- ---- if names are distinct, a member changes the entry of at most one name
 names_behind : (n : List ℕ) (ns : List (List ℕ)) (k : ℕ) → is_in n ns ≡ false → k < length ns → bytes_eq (get_or ns k []) n ≡ false
 names_behind n [] k none inside = absurd (omega (arith, inside))
 names_behind n (m ∷ ms) zero none inside = by_test (bytes_eq m n) refl none where

@@ -1,4 +1,4 @@
--- The first fault of a label, row by row.
+-- Lemmas: the first fault of a label is that of `key` or, if `key` has a value, of `value`.
 use Rattle.std.proofs.Common.{◌≡◌, ◌⊎◌, inl, inr, ◌↔◌, List}
 use Rattle.std.specs.Prelude.{codes}
 use Rattle.mes_json.specs.Tree.{Tree, Members}

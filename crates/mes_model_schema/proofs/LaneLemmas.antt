@@ -1,4 +1,4 @@
--- The vector operations on a block of letters, lane by lane.
+-- Lemmas about base64_blocks.rt: the vector operations on a block of letters, lane by lane.
 use Rattle.std.proofs.Common.{◌≡◌, ℕ, suc, ◌+◌, ◌*◌, ◌/◌, ◌%◌, ◌^◌, ◌==◌, ◌<◌, ◌≤◌, nat_lt, Bool, true, false, not, cond, eqb, leb, ◌&&◌, ◌||◌, List, [], ◌∷◌, map, length, get_or, replicate, bit_and, refl, sym, ap, subst, ◌∙◌, inl, inr, arith, w8, Fits}
 use Rattle.std.proofs.lemmas.Bool.{and_parts, and_from, or_cases, lt-ltb, eq-eqb, eqb-true, ltb-true, lt-leb}
 use Rattle.std.proofs.lemmas.List.{length-map}
@@ -10,11 +10,11 @@ use Rattle.base64.proofs.Tables.{all_below_at}
 use Rattle.mes_model_schema.specs.LetterValues.{letter_of, value_of, IsLetter}
 use Rattle.mes_model_schema.specs.declared.base64_blocks.TheConstants.{BY_LOW, BY_HIGH, TO_VALUE}
 
--- sixteen bytes
+-- the list has sixteen bytes
 abbrev pub IsBlock : List ℕ → Type 0
 IsBlock v = (length v ≡ 16) × Each1 (Fits w8) v
 
--- ---- look-ups
+-- ---- looking up each byte of a block in a table of sixteen entries
 
 abbrev pub down : ℕ → ℕ → ℕ
 down a b = a / 2 ^ b
@@ -41,7 +41,7 @@ places_ok g v js block e small =
     subst (λ (l : List ℕ). SwzOk w8 16 16 0 l) (sym e)
     (SwzOk-from_below w8 16 1 16 0 (map g v) refl (omega (arith, length-map v g, block.0)) (each_small g v block.1 small))
 
--- ---- the indexes that are looked up
+-- ---- the indexes of the look-ups
 
 abbrev pub low_place : ℕ → ℕ
 low_place x = bit_and x 15
@@ -70,7 +70,7 @@ low_places v block = zip2_splat bit_and v 16 15 block.0
 pub high_places : (v : List ℕ) → IsBlock v → zip2 down v (replicate 16 4) ≡ map high_place v
 high_places v block = zip2_splat down v 16 4 block.0
 
--- a lane of the test for a byte
+-- one lane of a comparison of bytes: 255 if the bytes are equal, else 0
 abbrev pub is_byte : ℕ → ℕ → ℕ
 is_byte a b = cond (eqb a b) 255 0
 
@@ -88,7 +88,7 @@ rows_are (x ∷ v) = rw (one_row (eqb x 47) (x / 16), rows_are v) refl
 pub row_places : (v : List ℕ) → IsBlock v → rows 16 v ≡ map row_place v
 row_places v block = ap (λ (n : ℕ). rows n v) (sym block.0) ∙ rows_are v
 
--- ---- the tables, found by computing
+-- ---- the entries of the tables, checked by computing
 
 abbrev pub is_letter : ℕ → Bool
 is_letter c = nat_lt (value_of c) 64 && (letter_of (value_of c) == c)
@@ -96,7 +96,7 @@ is_letter c = nat_lt (value_of c) 64 && (letter_of (value_of c) == c)
 letter_by_test : (c : ℕ) → is_letter c ≡ true → IsLetter c
 letter_by_test c e = let h = and_parts _ _ e in (ltb-true _ _ h.0, eqb-true _ _ h.1)
 
--- the bits that both entries of a byte have: none only for a letter
+-- the bits that both table entries of a byte have; only a letter has none
 abbrev pub fault_of : ℕ → ℕ
 fault_of x = bit_and (get_or BY_LOW (low_place x) 0) (get_or BY_HIGH (high_place x) 0)
 
@@ -112,7 +112,7 @@ no_fault c small none = elim (or_cases (not (fault_of c == 0)) (is_letter c) (al
   | inr letter ↦ letter_by_test c letter
 ]
 
--- the sum of a letter and its entry is its value
+-- the sum of a byte and its entry of TO_VALUE, which for a letter is the value of the letter
 abbrev pub value_lane : ℕ → ℕ
 value_lane x = (x + get_or TO_VALUE (row_place x) 0) % 256
 
@@ -130,7 +130,7 @@ is_value c small letter = elim (or_cases (not (is_letter c)) (value_lane c == va
   | inr same ↦ eqb-true _ _ same
 ]
 
--- ---- the values of a block
+-- ---- the computed values are those of the letters of a block
 
 added : (h : ℕ → ℕ) (v : List ℕ) → zip2 (λ a b. (a + b) % 256) v (map h v) ≡ map (λ x. (x + h x) % 256) v
 added h [] = refl
@@ -145,7 +145,7 @@ values_are v block letters =
     ap (λ (l : List ℕ). zip2 (λ a b. (a + b) % 256) v l) (looked_up TO_VALUE row_place v (rows 16 v) block (row_places v block) row_small)
     ∙ added (λ x. get_or TO_VALUE (row_place x) 0) v ∙ all_values v block.1 letters
 
--- ---- the faults of a block
+-- ---- a block without fault bits has only letters
 
 abbrev pub differs : ℕ → ℕ → ℕ
 differs a b = cond (not (eqb a b)) 255 0

@@ -1,4 +1,4 @@
--- Only an object has members.
+-- Lemma: a tree that is no object has no members.
 use Rattle.std.proofs.Common.{◌≡◌, None, refl}
 use Rattle.mes_json.specs.Tree.{Tree, Members}
 use Rattle.mes_json.specs.Tree.Tree.{null, boolean, number, string, array, object}

@@ -1,4 +1,5 @@
--- The entries of the tables of letters, by computing, and the sum of a group of them.
+-- Lemmas about the tables of base64_letters.rt: what their entries are, and that the sum of a group
+-- of entries has the decoded bytes.
 use Rattle.std.proofs.Common.{◌≡◌, ℕ, ◌+◌, ◌*◌, ◌/◌, ◌%◌, ◌==◌, ◌<◌, ◌≤◌, nat_lt, Bool, true, ◌&&◌, ◌||◌, List, [], ◌∷◌, ◌++◌, length, take, drop, slice_index, ◌⊎◌, inl, inr, refl, sym, ap, subst, ◌∙◌, arith}
 use Rattle.std.proofs.lemmas.Bool.{and_parts, or_cases, eqb-true, ltb-true}
 use Rattle.std.proofs.lemmas.List.{drop_more, length-take-le, take-append-le, take-append-drop, take_all, take-take}
@@ -13,20 +14,20 @@ use Rattle.base64.proofs.Tables.{all_below_at}
 use Rattle.base64.proofs.EngineFacts.{encode_of-append}
 use Rattle.mes_model_schema.specs.declared.base64_letters.TheConstants.{NO, FIRST, SECOND, THIRD, FOURTH}
 
--- ---- the tables
+-- ---- the entries of the tables, checked by computing
 
--- the letters of the alphabet, by their values
+-- the letters of the base64 alphabet in the order of their values
 abbrev pub letters : List ℕ
 letters = engine_symbols standard
 
--- the entry of a byte is NO, or the part of the value of the letter that it is
+-- the entry of the byte is NO, or the byte is a letter and the entry is this part of its value
 abbrev pub adds : List ℕ → (ℕ → ℕ) → (ℕ → ℕ) → ℕ → Bool
 adds table part value byte =
     (slice_index table byte == NO)
     || (nat_lt (value (slice_index table byte)) 64 && ((slice_index table byte == part (value (slice_index table byte)))
     && (slice_index letters (value (slice_index table byte)) == byte)))
 
--- `adds` as a proposition
+-- like `adds`, but as a proposition
 abbrev pub Adds : (ℕ → ℕ) → ℕ → ℕ → Type 0
 Adds part byte n = (n ≡ NO) ⊎ ((v : ℕ) × (v < 64) × (n ≡ part v) × (slice_index letters v ≡ byte))
 
@@ -65,7 +66,7 @@ third_adds = added THIRD third_part (λ n. n / 256 % 16 * 4 + n / 4194304) refl
 fourth_adds : (byte : ℕ) → byte < 256 → Adds fourth_part byte (slice_index FOURTH byte)
 fourth_adds = added FOURTH fourth_part (λ n. n / 65536) refl
 
--- ---- a group
+-- ---- a group of four letters encodes three bytes
 
 encoded_three : (x y z : ℕ) → encode_of standard (x ∷ y ∷ z ∷ []) ≡ encode_group letters x y z
 unfolding encode_symbols
@@ -79,7 +80,7 @@ encoded_two : (x y : ℕ) → encode_of standard (x ∷ y ∷ []) ≡ slice_inde
 unfolding encode_symbols
 encoded_two x y = refl
 
--- the values of four letters are those of the bytes of their sum
+-- the bytes of the sum of four entries are encoded as the letters with these values
 four_values : (v0 v1 v2 v3 n : ℕ) → v0 < 64 → v1 < 64 → v2 < 64 → v3 < 64 → n ≡ first_part v0 + second_part v1 + third_part v2 + fourth_part v3
     → encode_of standard (take 3 (to_le_bytes w32 n)) ≡ slice_index letters v0 ∷ slice_index letters v1 ∷ slice_index letters v2 ∷ slice_index letters v3 ∷ []
 four_values v0 v1 v2 v3 n l0 l1 l2 l3 e =
@@ -92,7 +93,7 @@ four_values v0 v1 v2 v3 n l0 l1 l2 l3 e =
     let e3 : z % 64 ≡ v3 = omega arith in
     encoded_three x y z ∙ rw (e0, e1, e2, e3) refl
 
--- four bytes with a sum below NO are letters, and encode the bytes of the sum
+-- four bytes whose entries have a sum below NO are the encoding of the three bytes of that sum
 letters_encode : (a b c d n m0 m1 m2 m3 : ℕ) → Adds first_part a m0 → Adds second_part b m1 → Adds third_part c m2 → Adds fourth_part d m3
     → n ≡ m0 + m1 + m2 + m3 → n < NO → a ∷ b ∷ c ∷ d ∷ [] ≡ encode_of standard (take 3 (to_le_bytes w32 n))
 letters_encode a b c d n m0 m1 m2 m3 (inl none) f1 f2 f3 e less = absurd (omega arith)
@@ -137,9 +138,9 @@ group_encodes text at n small fits e less =
     four_at text at fits
     ∙ letters_encode _ _ _ _ n _ _ _ _ (first_adds _ (small at)) (second_adds _ (small (at + 1))) (third_adds _ (small (at + 2))) (fourth_adds _ (small (at + 3))) e less
 
--- ---- the last group
+-- ---- the last group encodes one or two bytes
 
--- two letters and the padding of a group of one byte
+-- two letters with two padding bytes encode one byte
 two_letters : (a b n m0 m1 : ℕ) → Adds first_part a m0 → Adds second_part b m1 → n ≡ m0 + m1 → n < 256
     → a ∷ b ∷ 61 ∷ 61 ∷ [] ≡ encode_of standard (take 1 (to_le_bytes w32 n))
 two_letters a b n m0 m1 (inl none) f1 e less = absurd (omega arith)
@@ -153,7 +154,7 @@ two_letters a b n m0 m1 (inr f0) (inr f1) e less =
     let e1 : x % 4 * 16 ≡ f1.0 = omega arith in
     rw (← f0.3, ← f1.3) (sym (encoded_one x ∙ rw (e0, e1) refl))
 
--- three letters and the padding of a group of two bytes
+-- three letters with one padding byte encode two bytes
 three_letters : (a b c n m0 m1 m2 : ℕ) → Adds first_part a m0 → Adds second_part b m1 → Adds third_part c m2 → n ≡ m0 + m1 + m2 → n < 65536
     → a ∷ b ∷ c ∷ 61 ∷ [] ≡ encode_of standard (take 2 (to_le_bytes w32 n))
 three_letters a b c n m0 m1 m2 (inl none) f1 f2 e less = absurd (omega arith)
@@ -186,9 +187,9 @@ pub two_bytes : (text : List ℕ) (n : ℕ) → IsBytes text → length text ≡
 two_bytes text n small four p3 e less =
     text_of_four text four ∙ rw p3 (three_letters _ _ _ n _ _ _ (first_adds _ (small 0)) (second_adds _ (small 1)) (third_adds _ (small 2)) e less)
 
--- ---- the groups before the last one
+-- ---- groups are decoded one after another
 
--- the encoding of m bytes followed by n new ones
+-- the encoding of m bytes followed by n new bytes is that of the m, followed by that of the n
 pub written_front : (octets ys : List ℕ) (m n k : ℕ) → m % 3 ≡ 0 → m ≤ length octets → n ≤ length ys
     → encode_of standard (take (m + n) (put_mid m k octets ys)) ≡ encode_of standard (take m octets) ++ encode_of standard (take n ys)
 written_front octets ys m n k whole room few =

@@ -1,4 +1,4 @@
--- The first fault of a list: that of its first invalid item.
+-- Lemmas: the first fault of a list is that of its first invalid item.
 use Rattle.std.proofs.Common.{◌≡◌, ◌⊎◌, inl, inr, ◌↔◌, ℕ, suc, ◌+◌, Bool, true, false, List, [], ◌∷◌, ◌++◌, length, refl, sym, ◌∙◌, ap, subst, cond, arith}
 use Rattle.std.specs.Prelude.{All, Err}
 use Rattle.std.proofs.lemmas.List.Elements.{All-nil, All-cons, All-head, All-tail}
@@ -23,7 +23,7 @@ all_items : (ts : Items) → (us : List Tree) × (ts ≡ items_of us)
 all_items no_items = ([], refl)
 all_items (item t ts) = let more = all_items ts in (t ∷ more.0, ap (λ (us : Items). item t us) more.1)
 
--- the first fault of items, the first with index i
+-- the first fault of items, if the first item has index i in the path
 abbrev BreaksFrom : {V : Type 0} → Kind V → List Place → ℕ → Items → FieldFault → Type 0
 BreaksFrom {V} k at i ts f =
     (front : List Tree) × (t : Tree) × (following : List Tree)

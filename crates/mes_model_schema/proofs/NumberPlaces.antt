@@ -1,4 +1,4 @@
--- The text of a number at a place, for the value that is read there; and written texts are numbers.
+-- Lemmas: the value or the fault of a JSON number, from its text. Written texts are JSON numbers.
 use Rattle.std.proofs.Common.{◌≡◌, ℕ, ◌<◌, ◌^◌, List, sym, subst}
 use Rattle.std.specs.Prelude.{Ok, ℤ, FitsSigned, decimal}
 use Rattle.std.specs.Fmt.{signed_decimal}
@@ -16,7 +16,7 @@ use Rattle.mes_model_schema.specs.NumberLaws.{lawful_whole, lawful_signed32, law
 use Rattle.mes_model_schema.specs.NumberBack.{whole_returns, signed32_returns}
 use Rattle.mes_model_schema.specs.declared.field.FieldFaultKind.TheVariants.{NumberRange}
 
--- ---- whole numbers of 64 bits
+-- ---- the value or fault of an unsigned 64-bit number
 
 pub whole_given : (at : List Place) (t : Tree) (text : List ℕ) (v : ℕ) → number_of at t ≡ Ok text → Reads GivesWhole text v → whole.read at t ≡ Ok v
 unfolding whole
@@ -27,7 +27,7 @@ pub whole_out_of_range : (at : List Place) (t : Tree) (text : List ℕ) (f : Num
 whole_out_of_range at t text f is refused =
     subst (λ (u : Tree). whole.read at u ≡ fault at NumberRange) (sym (number_is at t text is)) (whole_refused at text f refused)
 
--- ---- signed whole numbers of 32 bits
+-- ---- the value or fault of a signed 32-bit number
 
 pub signed32_given : (at : List Place) (t : Tree) (text : List ℕ) (v : ℤ) → number_of at t ≡ Ok text → Reads GivesSigned text v → signed32.read at t ≡ Ok v
 unfolding signed32
@@ -38,7 +38,7 @@ pub signed32_out_of_range : (at : List Place) (t : Tree) (text : List ℕ) (f : 
 signed32_out_of_range at t text f is refused =
     subst (λ (u : Tree). signed32.read at u ≡ fault at NumberRange) (sym (number_is at t text is)) (signed32_refused at text f refused)
 
--- ---- decimal numbers
+-- ---- the value or fault of a decimal number
 
 pub fixed_given : (places : ℕ) (at : List Place) (t : Tree) (text : List ℕ) (v : ℕ) → number_of at t ≡ Ok text → Reads (GivesUnits places) text v
     → (fixed places).read at t ≡ Ok v
@@ -50,7 +50,7 @@ pub fixed_out_of_range : (places : ℕ) (at : List Place) (t : Tree) (text : Lis
 fixed_out_of_range places at t text f is refused =
     subst (λ (u : Tree). (fixed places).read at u ≡ fault at NumberRange) (sym (number_is at t text is)) (fixed_refused places at text f refused)
 
--- ---- written texts
+-- ---- the written texts are JSON numbers
 
 pub reads_is_number : {X : Type 0} (Gives : Numeral → X → Type 0) (text : List ℕ) (x : X) → Reads Gives text x → IsNumber text
 reads_is_number Gives text x reads = (reads.numeral, reads.spells)

@@ -1,4 +1,4 @@
--- The steps of a path in order.
+-- Lemmas about the steps of a path: adding a step, and the text of the path.
 use Rattle.std.proofs.Common.{◌≡◌, ℕ, zero, suc, ◌+◌, ◌<◌, ◌≤◌, ◌^◌, List, ◌∷◌, [], ◌++◌, length, map, get_or, set, take, drop, codes, decimal, ◌∙◌, ap, append_assoc, arith, subst, drop-cons, add-one, length-append, lit<}
 use Rattle.std.specs.List.{flat_map, All}
 use Rattle.std.proofs.lemmas.List.{get_or-map, length-map, map-append, length-take-le, take_more_set}
@@ -9,7 +9,7 @@ use Rattle.mes_model_schema.specs.Paths.Place.{name, index}
 use Rattle.mes_model_schema.specs.Steps.{place_of}
 use Rattle.mes_model_schema.specs.declared.path.Step.{Step}
 
--- a path with fewer than 16 steps has room
+-- a path with fewer than 16 steps has room for one more
 pub room_left : (steps : List Step) (n : ℕ) (at : List Place) → length steps ≡ 16 → n ≤ 16 → map place_of (take n steps) ≡ at → length at < 16 → n < 16
 room_left steps n at whole fits is less = omega (arith, ap length is, length-map (take n steps) place_of, length-take-le n steps (omega arith))
 
@@ -27,7 +27,7 @@ path_more at p less path place = record {
   each = All-append IsPlace at (p ∷ []) path.each (all_one p place);
 }
 
--- the steps after the first are places
+-- the steps after the first are valid places
 pub place_at : (items : List Step) (first : Step) (rest : List Step) (k : ℕ) (d : Step) → All IsPlace (map place_of items) → items ≡ first ∷ rest → k < length rest → IsPlace (place_of (get_or rest k d))
 place_at items first rest k d all is lt =
     let each : All IsPlace (map place_of (first ∷ rest)) = subst (λ (xs : List Step). All IsPlace (map place_of xs)) is all in
@@ -38,7 +38,7 @@ first_place items first rest all is =
     let each : All IsPlace (map place_of (first ∷ rest)) = subst (λ (xs : List Step). All IsPlace (map place_of xs)) is all in
     each zero (place_of first) (omega arith)
 
--- the text of a path: that of the first step, then those of the others
+-- the text of a path is the text of the first step, followed by the texts of the other steps
 pub path_text_first : (at : List Place) (items : List Step) (first : Step) (rest : List Step) → at ≡ map place_of items → items ≡ first ∷ rest → path_text at ≡ first_text (place_of first) ++ flat_map step_text (map place_of rest)
 path_text_first at items first rest shows is = rw (shows, is)
 

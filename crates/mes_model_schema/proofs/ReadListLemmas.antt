@@ -1,4 +1,4 @@
--- A list is read item by item.
+-- Lemmas: a list is read item by item.
 use Rattle.std.proofs.Common.{◌≡◌, ℕ, ◌+◌, List, [], ◌∷◌, ◌++◌, length, Some, None, refl, sym, ◌∙◌, ap, subst, append_assoc, append-nil, length-append}
 use Rattle.std.specs.Prelude.{Result, Ok, Err}
 use Rattle.std.specs.Result.{IsErrAnd}
@@ -19,13 +19,13 @@ use Rattle.mes_model_schema.specs.declared.field.FieldFaultKind.TheVariants.{Wro
 use Rattle.mes_model_schema.specs.declared.part.PartFault.{PartFault}
 use Rattle.mes_model_schema.proofs.RowLemmas.{gives_bound}
 
--- The values read so far, followed by those of the rest, are expected.
+-- The expected values are the values read so far, followed by the values of the remaining items.
 pub record ReadsOn {V : Type 0} (k : Kind V) (expected : Result (List V) FieldFault) (at : List Place) (xs : List V) (following : List Token) : Type 0 where
   pub rest : Items
   pub begins : BeginsItems following rest
   pub is : expected ≡ (read_each k at (length xs) rest >>= λ vs. Ok (xs ++ vs))
 
--- ---- the items of a place
+-- ---- a tree that is no array
 
 pub no_items_found : (at : List Place) (t : Tree) → FindsItems None (as_items t) → items_at at t ≡ fault at WrongKind
 no_items_found at null h = refl
@@ -46,7 +46,7 @@ items_found at xs (object ms) h = absurd h
 pub no_list : {V : Type 0} (k : Kind V) (at : List Place) (t : Tree) → FindsItems None (as_items t) → (list_of k).read at t ≡ fault at WrongKind
 no_list k at t h = rw (no_items_found at t h) refl
 
--- ---- consecutive items
+-- ---- the first item, the next item, and the end
 
 pub reads_first : {V : Type 0} (k : Kind V) (at : List Place) (t : Tree) (xs : List V) (following : List Token)
     → FindsItems (Some following) (as_items t) → xs ≡ [] → ReadsOn k ((list_of k).read at t) at xs following

@@ -20,7 +20,7 @@ use Rattle.mes_model_schema.specs.declared.field.FieldFault.{FieldFault}
 use Rattle.mes_model_schema.specs.declared.field.FieldFaultKind.{FieldFaultKind}
 use Rattle.mes_model_schema.specs.declared.field.FieldFaultKind.TheVariants.{Missing, Twice}
 
--- converting a value does not change the fault
+-- converting the value of a result does not change its fault
 pub kept_fault : {A B : Type 0} (r : Result A FieldFault) (go : A → B) (f : FieldFault) → ((r >>= λ x. Ok (go x)) ≡ Err f) ↔ (r ≡ Err f)
 kept_fault {A} {B} r go f = (to, breaks_first r _ f) where
   to : (r >>= λ x. Ok (go x)) ≡ Err f → r ≡ Err f
@@ -29,7 +29,7 @@ kept_fault {A} {B} r go f = (to, breaks_first r _ f) where
     | inr h ↦ let bad = h.2 in absurd (cc)
   ]
 
--- ---- a row of one member
+-- ---- first faults of a table with one row
 
 twice_is : {F : Type 0} (at : List Place) (n : List ℕ) (ms : Members) (value : Option Tree → Result F FieldFault) (f : FieldFault)
     → IsDuplicated ms n → IsAt (below at n) Twice f → (lookup at n ms >>= value) ≡ Err f
@@ -48,7 +48,7 @@ null_or_not (string s) = inr ((λ e. absurd (cc)), refl)
 null_or_not (array ts) = inr ((λ e. absurd (cc)), refl)
 null_or_not (object ms) = inr ((λ e. absurd (cc)), refl)
 
--- the fault of a row: its member is a duplicate, absent, or present with a fault
+-- the fault of a row: the member is a duplicate, or absent, or its value has the fault
 abbrev RowTells : {F : Type 0} → List Place → List ℕ → Members → (Option Tree → Result F FieldFault) → FieldFault → Type 0
 RowTells at n ms value f =
     (IsDuplicated ms n × IsAt (below at n) Twice f)
@@ -100,7 +100,7 @@ need_breaks {V} k n at ms f = (to, from) where
   from (inr (inl h)) = twice_is at n ms (must k (below at n)) f h.0 h.1
   from (inr (inr h)) = has_tells at n ms (must k (below at n)) f h.0 h.1 h.2
 
--- a row whose member may be absent
+-- the faults of a row whose member may be absent: a duplicate, or a fault of the value
 may_break : {F : Type 0} (at : List Place) (n : List ℕ) (ms : Members) (value : Option Tree → Result F FieldFault) (x : F) (f : FieldFault)
     (OfValue : Tree → Type 0) → value None ≡ Ok x → ((t : Tree) → (value (Some t) ≡ Err f) ↔ OfValue t)
     → ((lookup at n ms >>= value) ≡ Err f) ↔ ((IsDuplicated ms n × IsAt (below at n) Twice f) ⊎ ((t : Tree) × Has ms n t × OfValue t))
@@ -135,7 +135,7 @@ unfolding flagged objects
 flag_breaks n at ms f =
     may_break at n ms (is_there (below at n)) false f (λ t. Breaks objects (below at n) t f) refl (λ t. kept_fault (members_at (below at n) t) _ f)
 
--- ---- consecutive rows
+-- ---- first faults of consecutive rows
 
 pub exact_rows : {F : Type 0} {r : Table F} {steps : ℕ} → LawfulTable r steps → IsExact r
 exact_rows lawful at ms x = (lawful.sound at ms x, lawful.complete at ms x)
@@ -169,7 +169,7 @@ message_breaks {F} r at t f = (to, from) where
   from (inl h) = breaks_first (members_at at t) _ f ((object_told at t f).1 h)
   from (inr h) = rw (h.1) (h.2)
 
--- ---- the row `type`
+-- ---- first faults of a typed value
 
 pub case_breaks : {F G : Type 0} (this : List ℕ) (r : Table F) (rest : Choice G) (at : List Place) (kind : List ℕ) (ms : Members) (f : FieldFault)
     → ChoiceBreaks (case this r rest) at kind ms f ↔ CaseBreaks this r rest at kind ms f

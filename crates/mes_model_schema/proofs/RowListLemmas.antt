@@ -1,4 +1,4 @@
--- The names of rows by index, and what was found under them.
+-- Lemmas about the names of a table by index, and the members that were found under these names.
 use Rattle.std.proofs.Common.{◌≡◌, ℕ, zero, suc, ◌+◌, ◌-◌, ◌<◌, ◌≤◌, Bool, true, false, List, [], ◌∷◌, length, take, drop, get_or, map, bytes_eq, refl, sym, ◌∙◌, ap, subst, arith, Bor}
 use Rattle.std.specs.Prelude.{◌&&◌, leb}
 use Rattle.std.proofs.lemmas.Bool.{leb-true}
@@ -18,7 +18,7 @@ both : (a b : Bool) → (a && b) ≡ true → (a ≡ true) × (b ≡ true)
 both true b e = (refl, e)
 both false b e = absurd (cc)
 
--- each of the names is a valid step of a path
+-- each name of the list is a valid step of a path
 pub short_place : (ns : List (List ℕ)) (i : ℕ) → are_short ns ≡ true → i < length ns → IsPlace (name (name_at ns i))
 short_place [] i short inside = absurd (omega (arith, inside))
 short_place (n ∷ ns) zero short inside =
@@ -35,11 +35,11 @@ names_short ns names = (both (are_short ns) (distinct ns) names).0
 pub names_distinct : (ns : List (List ℕ)) → are_names ns ≡ true → distinct ns ≡ true
 names_distinct ns names = (both (are_short ns) (distinct ns) names).1
 
--- the texts that names are viewed as
+-- the texts of a list of borrowed names
 abbrev pub texts_of : List (Bor (List ℕ)) → List (List ℕ)
 texts_of names = map (λ n. n.now) names
 
--- a text for the default of a list of names
+-- the empty text, as the default when a list of names is indexed
 abbrev pub no_text : Bor (List ℕ)
 no_text = record { ref_ptr = (0, 0); now = [] }
 
@@ -58,7 +58,7 @@ found_at names d ms fs f i is inside room finds =
     (subst (λ (n : List ℕ). IsFound (get_or fs i Nothing) (values_named n ms)) (named_at names d i inside)
     (finds i (omega (arith, inside, length-map names (λ (n : Bor (List ℕ)). n.now)))))
 
--- ---- the names of a choice
+-- ---- the members found under the names of a typed value
 
 pub finds_each : (i : ℕ) (fs : List Found) (names : List (List ℕ)) (ms : Members)
     → ((j : ℕ) → j < length names → IsFound (get_or fs (i + j) Nothing) (values_named (get_or names j []) ms)) → FindsEach i names ms fs
@@ -82,7 +82,7 @@ represents i (m ∷ own) ns (suc j) stand inside =
     let parts = both (bytes_eq m (name_at ns i)) (stand_at (i + 1) own ns) stand in
     represents (i + 1) own ns j parts.1 (omega (arith, inside)) ∙ ap (λ (k : ℕ). name_at ns k) (omega arith)
 
--- the names of a choice, from an index on
+-- from index i on, the entries are those of the names of the typed value
 pub each_behind : (i : ℕ) (own ns : List (List ℕ)) (fs : List Found) (ms : Members)
     → stand_at i own ns ≡ true → i + length own ≤ length ns → FindsAll ns ms fs → FindsEach 0 own ms (drop i fs)
 each_behind i own ns fs ms stand room finds =
@@ -91,7 +91,7 @@ each_behind i own ns fs ms stand room finds =
     (subst (λ (n : List ℕ). IsFound (get_or fs (i + j) Nothing) (values_named n ms)) (sym (represents i own ns j stand inside))
     (finds (i + j) (omega (arith, inside, room)))))
 
--- the same, if the names after them are valid too
+-- like `each_behind`, given that the list has the names where the rows expect them
 pub choice_found : (first : ℕ) (own : List (List ℕ)) (names : List (Bor (List ℕ))) (fs : List Found) (ms : Members) (rest : Bool)
     → (stand_at first own (texts_of names) && rest) ≡ true → first + length own ≤ length names → FindsAll (texts_of names) ms fs
     → FindsEach 0 own ms (take (length fs - first) (drop first fs))

@@ -1,4 +1,4 @@
--- The trees of objects, lists and texts.
+-- Lemmas: the tree that a `Json` object, array or string represents.
 use Rattle.std.proofs.Common.{◌≡◌, ℕ, List, Vec, Global, rules}
 use Rattle.mes_json.specs.Tree.Tree.{string, array, object}
 use Rattle.mes_json.specs.View.{view, members_of, items_view}

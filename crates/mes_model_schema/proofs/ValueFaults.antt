@@ -1,4 +1,5 @@
--- The first fault of single values: another JSON kind, or the right kind but no value.
+-- Lemmas: the first fault of a string, number, boolean, object or bytes is another JSON type, or
+-- the right type but no value.
 use Rattle.std.proofs.Common.{◌≡◌, ◌⊎◌, inl, inr, ◌↔◌, ℕ, List, Option, Some, None, refl, sym, ◌∙◌, ap}
 use Rattle.std.specs.Prelude.{Result, Ok, Err, decimal}
 use Rattle.std.specs.Fmt.{signed_decimal}
@@ -25,7 +26,7 @@ use Rattle.mes_model_schema.specs.declared.field.FieldFault.{FieldFault}
 use Rattle.mes_model_schema.specs.declared.field.FieldFaultKind.{FieldFaultKind}
 use Rattle.mes_model_schema.specs.declared.field.FieldFaultKind.TheVariants.{WrongKind, BadBase64, NumberRange, LeftOut}
 
--- ---- a fault and its place
+-- ---- the path and the reason of a fault
 
 pub is_at : {V : Type 0} (at : List Place) (why : FieldFaultKind) (f : FieldFault) → fault {V = V} at why ≡ Err f → IsAt at why f
 is_at {V} at why f e =
@@ -37,9 +38,9 @@ told_at {V} at why f h =
     let E : FieldFault → Result V FieldFault = λ g. Err g in
     ap (λ (p : List Place). E (record { path = p; why = why })) (sym h.0) ∙ ap (λ (w : FieldFaultKind). E (record { path = f.path; why = w })) (sym h.1)
 
--- ---- trees of one JSON kind
+-- ---- the fault of a tree with another JSON type
 
--- the expected value is absent exactly if the tree has another JSON kind
+-- the fault `WrongKind` is returned if and only if the tree has another JSON type
 kind_told : {V : Type 0} (seen : Tree → Option V) (Is : Tree → Type 0) → ((t : Tree) → Is t → (v : V) × (seen t ≡ Some v)) → ((t : Tree) → ¬ Is t → seen t ≡ None)
     → (at : List Place) (t : Tree) (f : FieldFault) → (expected at (seen t) ≡ Err f) ↔ OtherKind (Is t) at f
 kind_told {V} seen Is some none at t f = (to (seen t) refl, from) where
@@ -121,9 +122,9 @@ pub left_out_breaks : (at : List Place) (t : Tree) (f : FieldFault) → Breaks l
 unfolding left_out
 left_out_breaks at t f = (is_at {V = ⊥} at LeftOut f, told_at at LeftOut f)
 
--- ---- numbers, and bytes
+-- ---- the faults of numbers and of bytes
 
--- a kind with only one fault for trees of its JSON kind has it for each tree that it does not read
+-- if trees of the right JSON type have only one fault, each such tree with no value has that fault
 one_reason : {V : Type 0} {steps : ℕ} (k : Kind V) → Lawful k steps → (Is : Tree → Type 0) (why : FieldFaultKind) (at : List Place) (t : Tree) (f : FieldFault)
     → ((g : FieldFault) → Breaks k at t g → OtherKind (Is t) at g ⊎ (Is t × IsAt at why g)) → (OtherKind (Is t) at f → Breaks k at t f)
     → Breaks k at t f ↔ ValueBreaks Is why k at t f

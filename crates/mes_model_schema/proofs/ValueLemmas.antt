@@ -1,4 +1,4 @@
--- The only value of a name, by what was found.
+-- Lemmas: the only value of the members of one name, from the number of members found.
 use Rattle.std.proofs.Common.{◌≡◌, ◌≤◌, true, false, List, [], ◌∷◌, length, Option, Some, None, refl, ap, arith}
 use Rattle.std.specs.Prelude.{Ok}
 use Rattle.mes_json.specs.Tree.{Tree}
@@ -24,7 +24,7 @@ unless_null-other (string s) is = refl
 unless_null-other (array ts) is = refl
 unless_null-other (object ms) is = refl
 
--- no value, one that is null, one that is not, and several
+-- the result of `single` for no value, for null, for one other value, and for two or more values
 pub single_none : (at : List Place) (ts : List Tree) → ts ≡ [] → single at ts ≡ Ok None
 single_none at ts is = rw is refl
 

@@ -1,4 +1,4 @@
--- Bytes: a string of their padded base64 text (RFC 4648 section 4).
+-- Bytes, in JSON a string with their padded base64 text (RFC 4648 section 4).
 use Rattle.std.specs.Prelude.{◌≡◌, ℕ, nat_lt, Bool, ◌&&◌, List, bytes_eq, Option, Some, None, Result, Ok}
 use Rattle.std.specs.List.{list_all}
 use Rattle.base64.specs.declared.engine.general_purpose.GeneralPurpose.{GeneralPurpose}
@@ -17,11 +17,11 @@ use Rattle.mes_model_schema.specs.declared.field.FieldFaultKind.TheVariants.{Bad
 abbrev pub Encodes : GeneralPurpose → List ℕ → List ℕ → Type 0
 Encodes engine text bytes = (text ≡ encode_of engine bytes) × IsBytes bytes
 
--- `Encodes`, decided
+-- `Encodes` as a boolean
 abbrev pub encodes : GeneralPurpose → List ℕ → List ℕ → Bool
 encodes engine text bytes = bytes_eq text (encode_of engine bytes) && list_all (λ b. nat_lt b 256) bytes
 
--- the bytes that the text encodes, if there are any
+-- the bytes that the text encodes, if it is the text of any bytes
 unfoldable pub bytes_in : GeneralPurpose → List ℕ → Option (List ℕ)
 bytes_in engine text = when (encodes engine text (decoded_bytes_of engine text)) (decoded_bytes_of engine text)
 
@@ -29,7 +29,7 @@ abbrev pub or_base64 : List Place → Option (List ℕ) → Result (List ℕ) Fi
 or_base64 at None = fault at BadBase64
 or_base64 at (Some bytes) = Ok bytes
 
--- bytes as strings that the engine encodes
+-- the kind of bytes that are written as the string that the engine encodes
 abbrev pub encoded_by : GeneralPurpose → Kind (List ℕ)
 encoded_by engine = record {
   Reads = λ t bytes. (text : List ℕ) × (t ≡ string text) × Encodes engine text bytes;
@@ -37,6 +37,6 @@ encoded_by engine = record {
   tree = λ bytes. string (encode_of engine bytes);
 }
 
--- bytes as padded base64 in the standard alphabet, with unused bits zero
+-- the kind of bytes that are padded base64 in the standard alphabet, with unused bits zero
 unfoldable pub base64_bytes : Kind (List ℕ)
 base64_bytes = encoded_by standard

@@ -23,7 +23,7 @@ use Rattle.mes_model_schema.specs.NumberLaws.{when_some, less, less_test}
 use Rattle.mes_model_schema.specs.declared.field.FieldFault.{FieldFault}
 use Rattle.mes_model_schema.specs.declared.field.FieldFaultKind.TheVariants.{WrongKind, BadBase64}
 
--- ---- numbers below 256
+-- ---- a list is checked to have only numbers below 256
 
 both : (a b : Bool) → (a && b) ≡ true → (a ≡ true) × (b ≡ true)
 both true b e = (refl, e)
@@ -38,7 +38,7 @@ bytes_test : (bs : List ℕ) → IsBytes bs → list_all (λ b. nat_lt b 256) bs
 bytes_test [] h = refl
 bytes_test (b ∷ bs) h = rw (less_test b 256 (h 0), bytes_test bs (λ i. h (suc i))) refl
 
--- ---- the bytes of a text
+-- ---- a text encodes at most one list of bytes
 
 pub encodes_is : (engine : GeneralPurpose) (text bytes : List ℕ) → encodes engine text bytes ≡ true → Encodes engine text bytes
 encodes_is engine text bytes e =
@@ -74,7 +74,7 @@ no_bytes_in engine consistent text f fails = by_bytes (bytes_in engine text) ref
       let back : decode_of engine text ≡ Ok bytes = subst (λ (s : List ℕ). decode_of engine s ≡ Ok bytes) (sym h.0) (decode_of-encode_of engine bytes consistent h.1) in
       let bad : Err f ≡ Ok bytes = sym fails ∙ back in absurd (cc)
 
--- ---- the kind
+-- ---- the law of the kind of bytes
 
 or_base64_ok : (at : List Place) (o : Option (List ℕ)) (bytes : List ℕ) → or_base64 at o ≡ Ok bytes → o ≡ Some bytes
 or_base64_ok at None bytes e = absurd (cc)

@@ -22,12 +22,13 @@ use Rattle.mes_model_schema.specs.declared.field.FieldFaultKind.{FieldFaultKind}
 use Rattle.mes_model_schema.specs.declared.field.FieldFaultKind.TheVariants.{Missing}
 
 pub record LawfulChoice {F : Type 0} (c : Choice F) (steps : ℕ) : Type 0 where
-  -- `read` returns exactly what `Reads` says, at any path
+  -- at any path, `read` returns x if and only if `Reads` relates the type and the members to x
   pub sound : (at : List Place) (kind : List ℕ) (ms : Members) (x : F) → c.read at kind ms ≡ Ok x → c.Reads kind ms x
   pub complete : (at : List Place) (kind : List ℕ) (ms : Members) (x : F) → c.Reads kind ms x → c.read at kind ms ≡ Ok x
-  -- what was written is read back, if the types are distinct and so are the names of each
+  -- x is read back from the members that it is written as, if the types are distinct and the member
+  -- names of each type are distinct
   pub back : (ms : Members) (x : F) → c.reported_apart ≡ true → Agrees c.names ms (c.members x) → c.Back x → c.Reads (c.type_of x) ms x
-  -- no member is written under other names
+  -- no member is written under a name that no type has
   pub only : (n : List ℕ) (x : F) → is_in n c.names ≡ false → values_named n (members_of (c.members x)) ≡ []
   -- a written value has one of the known types
   pub known : (x : F) → c.Back x → c.takes (c.type_of x) ≡ true
@@ -75,7 +76,7 @@ or_back : (a b : Bool) → b ≡ true → (a || b) ≡ true
 or_back true b e = refl
 or_back false b e = e
 
--- the steps of a choice are the maximum over its types
+-- the law of a choice, whose number of steps is the maximum over its types
 pub lawful_case : {F G : Type 0} {this : List ℕ} {r : Table F} {rest : Choice G} {a b : ℕ} → LawfulTable r a → LawfulChoice rest b
     → LawfulChoice (case this r rest) (max a b)
 lawful_case {F = F} {G = G} {this = this} {r = r} {rest = rest} {a = a} {b = b} lr lrest = record {
@@ -113,7 +114,7 @@ lawful_case {F = F} {G = G} {this = this} {r = r} {rest = rest} {a = a} {b = b} 
   complete at kind ms (inl x) h = rw (h.0, same_name this) (after _ _ x (lr.complete at ms x h.1))
   complete at kind ms (inr y) h = rw (names_differ kind this h.0) (after _ _ y (lrest.complete at kind ms y h.1))
 
-  -- a type of the rest differs from this one
+  -- a type that the other rows take differs from `this`
   other : (kind : List ℕ) → rest.takes this ≡ false → rest.takes kind ≡ true → kind ≢ this
   other kind new taken = λ e. let bad : rest.takes this ≡ true = subst (λ (n : List ℕ). rest.takes n ≡ true) e taken in absurd (cc)
 
@@ -182,13 +183,13 @@ lawful_case {F = F} {G = G} {this = this} {r = r} {rest = rest} {a = a} {b = b} 
         ),
       )
 
--- ---- the row `type`
+-- ---- the law of the row `type` with the rows of the types
 
--- some members are read under some type
+-- some members are read as a value, under some type
 abbrev SomeType : {F : Type 0} → Choice F → Type 0
 SomeType c = (kind : List ℕ) × SomeRead c.names (c.Reads kind)
 
--- `type` and the other members, each as it was written
+-- if the object has the written member `type` and the other written members, it agrees with each
 beside : (names : List (List ℕ)) (kind : List ℕ) (ms : Members) (own : Pairs) → distinct (type_name ∷ names) ≡ true → Under names own
     → Agrees (type_name ∷ names) ms ((type_name, string kind) ∷ own) → Has ms type_name (string kind) × Agrees names ms own
 beside names kind ms own once under agrees =
@@ -266,7 +267,8 @@ typed_rows {F = F} {c = c} {steps = steps} lc once_each some = record {
             (one.0, after _ _ kind (own_row.complete at ms kind (string kind, each.0, refl)) ∙ one.1, omega (arith, one.2, most))),
       )
 
--- the row `type` and the rows of its types, if the types are distinct and so are the names of each
+-- the law of the row `type` with the rows of the types, if the types are distinct and the member
+-- names of each type are distinct
 pub lawful_typed : {F G : Type 0} {this : List ℕ} {r : Table F} {rest : Choice G} {a b : ℕ} → LawfulTable r a → LawfulChoice rest b
     → (case this r rest).reported_apart ≡ true → LawfulTable (typed (case this r rest)) (max 1 (max a b))
 lawful_typed {F = F} {G = G} {this = this} {r = r} {rest = rest} lr lrest once_each = typed_rows (lawful_case lr lrest) once_each some where

@@ -1,4 +1,4 @@
--- The member `type`, and the rows that depend on it.
+-- The member `type`, and the members that depend on its value.
 use Rattle.std.specs.Prelude.{◌≡◌, ◌≢◌, ◌⊎◌, ℕ, Bool, true, false, ◌||◌, ◌&&◌, not, List, [], ◌∷◌, bytes_eq, codes, if◌then◌else◌, Result, Ok}
 use Rattle.std.proofs.Common.{inl, inr}
 use Rattle.mes_json.specs.Tree.{Tree, Members}
@@ -12,17 +12,17 @@ use Rattle.mes_model_schema.specs.Rows.{Table, required}
 use Rattle.mes_model_schema.specs.declared.field.FieldFault.{FieldFault}
 use Rattle.mes_model_schema.specs.declared.field.FieldFaultKind.{FieldFaultKind}
 
--- How the members of an object are read and written, given its type.
+-- A choice: how the members of an object are read and written, given its type.
 pub record Choice (F : Type 0) : Type 1 where
   -- the type is known
   pub takes : List ℕ → Bool
-  -- the types are distinct, and so are the names of each
+  -- the types are distinct, and the member names of each type are distinct
   pub reported_apart : Bool
   -- the names of the members that are read under at least one type
   pub names : List (List ℕ)
-  -- given the type, the members are read as x
+  -- given the type of an object, its members are read as x
   pub Reads : List ℕ → Members → F → Type 0
-  -- given the type, the value of the members of an object at a path, or the first fault
+  -- given the path and the type of an object, the value of its members, or the first fault
   pub read : List Place → List ℕ → Members → Result F FieldFault
   -- the type of x, and the members other than `type` that x is written as
   pub type_of : F → List ℕ
@@ -33,7 +33,7 @@ pub record Choice (F : Type 0) : Type 1 where
 abbrev pub type_name : List ℕ
 type_name = codes "type"
 
--- no other type is known
+-- the choice in which no other type is known: any type is a fault, for this reason
 abbrev pub no_other : FieldFaultKind → Choice ⊥
 no_other why = record {
   takes = λ kind. false;
@@ -46,7 +46,7 @@ no_other why = record {
   Back = λ x. ⊥;
 }
 
--- any other type is kept by its name, with no member read or written
+-- the choice in which any other type is retained as its name, and no member is read or written
 abbrev pub others : List (List ℕ) → Choice (List ℕ)
 others known = record {
   takes = λ kind. not (is_in kind known);
@@ -59,7 +59,8 @@ others known = record {
   Back = λ x. is_in x known ≡ false;
 }
 
--- these rows for this type, and the rest for other types; types may share a name
+-- the choice with this table for this type, and another choice for other types; two types may share
+-- a member name
 abbrev pub case : {F G : Type 0} → List ℕ → Table F → Choice G → Choice (F ⊎ G)
 case {F} {G} this r rest = record {
   takes = λ kind. bytes_eq this kind || rest.takes kind;
@@ -87,7 +88,7 @@ case {F} {G} this r rest = record {
   CaseBack (inl x) = r.Back x
   CaseBack (inr y) = rest.Back y
 
--- the row `type`, which is required, and the rows of the type
+-- the table with the required row `type` and the rows of the type
 abbrev pub typed : {F : Type 0} → Choice F → Table F
 typed c = record {
   names = type_name ∷ c.names;

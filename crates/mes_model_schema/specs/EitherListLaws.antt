@@ -1,4 +1,4 @@
--- The laws of lists that are read in two forms.
+-- The laws of lists that are read as an array, or as an object with the array as a member.
 use Rattle.std.proofs.Common.{◌≡◌, inl, inr, ℕ, ◌+◌, ◌≤◌, Bool, true, false, List, length, refl, ap, cond, arith}
 use Rattle.std.specs.Prelude.{Ok, Err}
 use Rattle.mes_json.specs.Tree.{Tree}
@@ -15,7 +15,7 @@ use Rattle.mes_model_schema.specs.RowLaws.{LawfulTable, lawful_many}
 use Rattle.mes_model_schema.specs.MessageLaws.{lawful_message, message_returns}
 use Rattle.mes_model_schema.specs.declared.field.FieldFault.{FieldFault}
 
--- the object form is one step deeper
+-- faults in the object form are one step deeper than in the array form
 pub lawful_either_list : {A : Type 0} {n : List ℕ} {k : Kind A} {steps : ℕ} → Lawful k steps → Lawful (either_list n k) (2 + steps)
 lawful_either_list {A = A} {n = n} {k = k} {steps = steps} lawful = record {
   sound = λ at t vs e. sound at t vs (is_array t) e;

@@ -14,7 +14,7 @@ is_array (number n) = false
 is_array (string s) = false
 is_array (object ms) = false
 
--- an object whose member of this name is the list, or the list itself
+-- the kind of lists that are read as an array, or as an object with the array under this name
 abbrev pub either_list : {V : Type 0} → List ℕ → Kind V → Kind (List V)
 either_list n k = record {
   Reads = λ t vs. (message (many n k)).Reads t vs ⊎ (list_of k).Reads t vs;

@@ -1,4 +1,4 @@
--- The printed names of the reasons.
+-- The printed names of the reasons of faults.
 use Rattle.std.specs.Prelude.{ℕ, List, codes}
 use Rattle.mes_model_schema.specs.declared.field.FieldFaultKind.{FieldFaultKind}
 use Rattle.mes_model_schema.specs.declared.field.FieldFaultKind.TheVariants.{Missing, Twice, WrongKind, UnknownName, BadBase64, NumberRange, LeftOut}

@@ -1,4 +1,4 @@
--- Laws of `lookup` and of `>>=`.
+-- Laws of `lookup`, which finds the member of a name, and of `>>=`, which chains two results.
 use Rattle.std.proofs.Common.{◌≡◌, ◌≢◌, ◌⊎◌, inl, inr, ℕ, List, [], ◌∷◌, Option, Some, None, refl, sym, ◌∙◌, ap, subst}
 use Rattle.std.specs.Prelude.{Result, Ok, Err}
 use Rattle.mes_json.specs.Tree.{Tree, Members}
@@ -8,7 +8,7 @@ use Rattle.mes_model_schema.specs.Fields.{values_named, Has, Lacks, below, unles
 use Rattle.mes_model_schema.specs.Kinds.{◌>>=◌}
 use Rattle.mes_model_schema.specs.declared.field.FieldFault.{FieldFault}
 
--- ---- consecutive reads
+-- ---- the value or fault of a chain of two results
 
 pub bound : {A B : Type 0} (r : Result A FieldFault) (go : A → Result B FieldFault) (w : B) → (r >>= go) ≡ Ok w
     → (v : A) × (r ≡ Ok v) × (go v ≡ Ok w)
@@ -18,13 +18,13 @@ bound {A} {B} (Err f) go w e = let h : Err f ≡ Ok w = e in absurd (cc)
 pub after : {A B : Type 0} (r : Result A FieldFault) (go : A → Result B FieldFault) (v : A) → r ≡ Ok v → (r >>= go) ≡ go v
 after {A} r go v e = ap (λ (x : Result A FieldFault). x >>= go) e
 
--- a fault is that of the first read, or that of the second with the value of the first
+-- the fault of a chain is that of the first result, or that of the second given the first value
 pub broken : {A B : Type 0} (r : Result A FieldFault) (go : A → Result B FieldFault) (f : FieldFault) → (r >>= go) ≡ Err f
     → (r ≡ Err f) ⊎ ((v : A) × (r ≡ Ok v) × (go v ≡ Err f))
 broken (Ok v) go f e = inr (v, refl, e)
 broken {A} {B} (Err g) go f e = let h : Err g ≡ Err f = e in inl (cc)
 
--- the fault of the first read is that of both
+-- a fault of the first result is the fault of the chain
 pub breaks_first : {A B : Type 0} (r : Result A FieldFault) (go : A → Result B FieldFault) (f : FieldFault) → r ≡ Err f → (r >>= go) ≡ Err f
 breaks_first {A} r go f e = ap (λ (x : Result A FieldFault). x >>= go) e
 
@@ -50,7 +50,7 @@ none_or_some (string s) = inr ((λ e. absurd (cc)), refl)
 none_or_some (array ts) = inr ((λ e. absurd (cc)), refl)
 none_or_some (object ms) = inr ((λ e. absurd (cc)), refl)
 
--- ---- the member of a name
+-- ---- looking up the member of a name
 
 pub has_looked : (at : List Place) (n : List ℕ) (ms : Members) (t : Tree) → Has ms n t → lookup at n ms ≡ Ok (Some t)
 unfolding lookup
@@ -61,7 +61,7 @@ unfolding lookup
 lacks_looked at n ms (inl e) = rw e refl
 lacks_looked at n ms (inr e) = rw e refl
 
--- a successful look-up: the member is absent, or it is present
+-- a successful look-up found that the member is absent, or its value
 pub looked : {F : Type 0} (at : List Place) (n : List ℕ) (ms : Members) (value : Option Tree → Result F FieldFault) (x : F)
     → (lookup at n ms >>= value) ≡ Ok x → (Lacks ms n × (value None ≡ Ok x)) ⊎ ((t : Tree) × Has ms n t × (value (Some t) ≡ Ok x))
 unfolding lookup

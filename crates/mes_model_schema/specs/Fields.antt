@@ -1,4 +1,5 @@
--- The members of an object by name: a known name occurs at most once, and null counts as absent.
+-- The members of an object, looked up by name. A name that is looked up must not occur twice, and a
+-- member with the value null counts as absent.
 use Rattle.std.specs.Prelude.{◌≡◌, ◌≢◌, ◌⊎◌, ℕ, Bool, true, false, List, [], ◌∷◌, ◌++◌, bytes_eq, ◌||◌, if◌then◌else◌, Option, Some, None, Result, Ok, Err}
 use Rattle.mes_json.specs.Tree.{Tree, Members}
 use Rattle.mes_json.specs.Tree.Tree.{null, boolean, number, string, array, object}
@@ -31,7 +32,7 @@ Lacks ms n = (values_named n ms ≡ []) ⊎ (values_named n ms ≡ null ∷ [])
 abbrev pub below : List Place → List ℕ → List Place
 below at n = at ++ name n ∷ []
 
--- a fault at a path
+-- the result with a fault at this path, for this reason
 abbrev pub fault : {V : Type 0} → List Place → FieldFaultKind → Result V FieldFault
 fault at why = Err (record { path = at; why = why })
 
@@ -46,7 +47,7 @@ is_null (object ms) = false
 abbrev pub unless_null : Tree → Option Tree
 unless_null t = if is_null t then None else Some t
 
--- the only one of these values, if it is not null; two are a fault at the path
+-- the only value in the list, if it is not null; two or more values are a fault at the path
 abbrev pub single : List Place → List Tree → Result (Option Tree) FieldFault
 single at [] = Ok None
 single at (t ∷ []) = Ok (unless_null t)

@@ -1,4 +1,5 @@
--- The first fault of a message, row by row: a row can have it only if all rows before it are read.
+-- The first fault of a message, row by row of its table. A row can have the first fault only if the
+-- rows before it have none.
 use Rattle.std.specs.Prelude.{◌≡◌, ◌≢◌, ◌⊎◌, ◌↔◌, ℕ, List}
 use Rattle.mes_json.specs.Tree.{Tree, Members}
 use Rattle.mes_json.specs.Tree.Tree.{string, object}
@@ -13,47 +14,47 @@ use Rattle.mes_model_schema.specs.FirstFaults.{IsAt, IsObject, OtherKind, AreRea
 use Rattle.mes_model_schema.specs.declared.field.FieldFault.{FieldFault}
 use Rattle.mes_model_schema.specs.declared.field.FieldFaultKind.{FieldFaultKind}
 
--- the faults of the members of an object at a path
+-- the type of relations between the path of an object, its members and a fault
 abbrev pub OfRows : Type 1
 OfRows = List Place → Members → FieldFault → Type 0
 
--- the same, given the type
+-- like `OfRows`, but also with the type of the object
 abbrev pub OfTypes : Type 1
 OfTypes = List Place → List ℕ → Members → FieldFault → Type 0
 
--- ---- rows
+-- ---- the first fault of rows in order
 
--- no more rows: no fault
+-- the end of a table: no fault
 abbrev pub NoRows : OfRows
 NoRows at ms f = ⊥
 
--- these rows have the fault, or they are read and the later rows have it
+-- these rows have the fault, or they have a value and the later rows have the fault
 abbrev pub Then : {F : Type 0} → Table F → OfRows → OfRows → OfRows
 Then r own later at ms f = own at ms f ⊎ (AreRead r ms × later at ms f)
 
--- a required member, then the later rows
+-- the first fault of a required member and the later rows
 abbrev pub NeedThen : {V : Type 0} → List ℕ → Kind V → OfRows → OfRows
 NeedThen n k later = Then (need n k) (NeedBreaks k n) later
 
--- an optional member, then the later rows
+-- the first fault of an optional member and the later rows
 abbrev pub MaybeThen : {V : Type 0} → List ℕ → Kind V → OfRows → OfRows
 MaybeThen n k later = Then (maybe n k) (OptionalBreaks k n) later
 
--- the member of a list, which may be absent, then the later rows
+-- the first fault of a list, whose member may be absent, and the later rows
 abbrev pub ListThen : {V : Type 0} → List ℕ → Kind V → OfRows → OfRows
 ListThen n k later = Then (many n k) (OptionalBreaks (list_of k) n) later
 
--- a flag, then the later rows
+-- the first fault of a flag and the later rows
 abbrev pub FlagThen : List ℕ → OfRows → OfRows
 FlagThen n later = Then (flag n) (OptionalBreaks objects n) later
 
--- ---- the row `type`, and the rows of the type
+-- ---- the first fault of a typed value
 
--- for this type these rows have the fault; for others the later types have it
+-- for this type, the fault is that of these rows; for other types, it is that of the later types
 abbrev pub TypeThen : List ℕ → OfRows → OfTypes → OfTypes
 TypeThen this own later at kind ms f = ((kind ≡ this) × own at ms f) ⊎ ((kind ≢ this) × later at kind ms f)
 
--- any other type is a fault in the row `type`, for this reason
+-- any other type is a fault of the member `type`, for this reason
 abbrev pub NoType : FieldFaultKind → OfTypes
 NoType why at kind ms f = IsAt (below at type_name) why f
 
@@ -61,26 +62,26 @@ NoType why at kind ms f = IsAt (below at type_name) why f
 abbrev pub AnyType : OfTypes
 AnyType at kind ms f = ⊥
 
--- the row `type` has the fault, or the rows of its type have it
+-- the member `type` has the fault, or the rows of that type have the fault
 abbrev pub ByType : OfTypes → OfRows
 ByType types at ms f =
     NeedBreaks texts type_name at ms f
     ⊎ ((kind : List ℕ) × Has ms type_name (string kind) × types at kind ms f)
 
--- ---- a message
+-- ---- the first fault of a message
 
--- not an object, or an object whose rows have the fault
+-- the tree is not an object, or an object whose rows have the fault
 abbrev pub OfMessage : OfRows → List Place → Tree → FieldFault → Type 0
 OfMessage rows at t f =
     OtherKind (IsObject t) at f
     ⊎ ((ms : Members) × (t ≡ object ms) × rows at ms f)
 
--- ---- the statement of the laws
+-- ---- the laws that are stated for each message
 
--- The rows have exactly these faults.
+-- The table has a first fault if and only if `faults` relates the object to it.
 pub record RowsHave {F : Type 0} (r : Table F) (faults : OfRows) : Type 0 where
   pub just : (at : List Place) (ms : Members) (f : FieldFault) → RowsBreak r at ms f ↔ faults at ms f
 
--- The rows of each type have exactly these faults.
+-- The rows of a type have a first fault if and only if `faults` relates the type and object to it.
 pub record TypesHave {F : Type 0} (c : Choice F) (faults : OfTypes) : Type 0 where
   pub just : (at : List Place) (kind : List ℕ) (ms : Members) (f : FieldFault) → ChoiceBreaks c at kind ms f ↔ faults at kind ms f

@@ -1,4 +1,5 @@
--- The laws of the kinds without rows, and of lists: each tree is read in exactly one way.
+-- The laws of strings, booleans, retained objects, unsupported values and lists: each tree has
+-- exactly one value or exactly one first fault.
 use Rattle.std.proofs.Common.{◌≡◌, inl, inr, ℕ, ◌+◌, ◌≤◌, Bool, true, List, [], ◌∷◌, ◌++◌, length, map, refl, sym, ◌∙◌, ap, arith, length-append}
 use Rattle.std.specs.Prelude.{Result, Ok, Err}
 use Rattle.mes_json.specs.Tree.{Tree, Items, Members}
@@ -18,7 +19,7 @@ use Rattle.mes_model_schema.specs.StepLaws.{expected_there, breaks_there}
 use Rattle.mes_model_schema.specs.declared.field.FieldFault.{FieldFault}
 use Rattle.mes_model_schema.specs.declared.field.FieldFaultKind.TheVariants.{WrongKind}
 
--- ---- a unique result
+-- ---- each tree has exactly one value or exactly one fault
 
 pub settled : {A : Type 0} {steps : ℕ} (k : Kind A) → Lawful k steps → (at : List Place) (t : Tree) → Settled k at t
 settled {A} k lawful at t = by_read (k.read at t) refl where
@@ -36,7 +37,7 @@ settled {A} k lawful at t = by_read (k.read at t) refl where
     (λ w reads. let h : Ok w ≡ Err f = sym (lawful.complete at t w reads) ∙ e in absurd (cc)),
   )
 
--- ---- values of one JSON kind
+-- ---- the laws of strings, booleans, retained objects and unsupported values
 
 pub text_is : (at : List Place) (t : Tree) (s : List ℕ) → text_of at t ≡ Ok s → t ≡ string s
 text_is at (string r) s e = cc
@@ -123,7 +124,7 @@ pub objects_return : (ms : Members) → Returns objects ms
 unfolding objects
 objects_return ms = refl
 
--- ---- lists
+-- ---- the laws of lists
 
 each_sound : {A : Type 0} {steps : ℕ} (k : Kind A) → Lawful k steps → (at : List Place) (i : ℕ) (ts : Items) (vs : List A) → read_each k at i ts ≡ Ok vs
     → ReadsEach k ts vs

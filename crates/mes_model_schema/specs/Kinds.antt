@@ -1,4 +1,5 @@
--- A kind of value: the trees it is read from, their first faults, and the tree it is written as.
+-- A kind of value: the JSON trees that are read as a value, the first faults of all other trees,
+-- and the tree that a value is written as.
 use Rattle.std.specs.Prelude.{◌≡◌, ◌≢◌, ◌⊎◌, ℕ, ◌+◌, ◌≤◌, List, length, Result, Ok, Err}
 use Rattle.mes_json.specs.Tree.{Tree}
 use Rattle.mes_json.specs.Tree.Tree.{null}
@@ -8,24 +9,25 @@ use Rattle.mes_model_schema.specs.declared.field.FieldFault.{FieldFault}
 pub record Kind (V : Type 0) : Type 1 where
   -- the tree is read as the value
   pub Reads : Tree → V → Type 0
-  -- the value of a tree at a path, or its first fault
+  -- the value of a tree at a path, or the first fault of the tree
   pub read : List Place → Tree → Result V FieldFault
   -- the tree that the value is written as
   pub tree : V → Tree
 
--- the tree at this path is not read, and this is its first fault
+-- the tree at this path has no value of the kind, and its first fault is the last argument
 abbrev pub Breaks : {V : Type 0} → Kind V → List Place → Tree → FieldFault → Type 0
 Breaks k at t f = k.read at t ≡ Err f
 
--- no fault of a tree is more than this many steps below it
+-- no fault of a tree is more than this number of steps below the tree
 abbrev pub Within : {V : Type 0} → Kind V → ℕ → Type 0
 Within k steps = (at : List Place) (t : Tree) (f : FieldFault) → Breaks k at t f → length f.path ≤ length at + steps
 
--- some tree other than null has, at every path, a fault exactly this many steps below it
+-- some tree other than null has, at every path, a fault exactly this number of steps below the tree
 abbrev pub Reaches : {V : Type 0} → Kind V → ℕ → Type 0
 Reaches k steps = (t : Tree) × (t ≢ null) × ((at : List Place) → (f : FieldFault) × Breaks k at t f × (length f.path ≡ length at + steps))
 
--- `read` is exactly `Reads`; null is no value; faults are at most `steps` steps down.
+-- The laws of a kind: `read` decides `Reads`, null is no value, and a fault is at most `steps`
+-- steps below its tree.
 pub record Lawful {V : Type 0} (k : Kind V) (steps : ℕ) : Type 0 where
   pub sound : (at : List Place) (t : Tree) (v : V) → k.read at t ≡ Ok v → k.Reads t v
   pub complete : (at : List Place) (t : Tree) (v : V) → k.Reads t v → k.read at t ≡ Ok v
@@ -44,7 +46,7 @@ Settled {V} k at t =
 abbrev pub Returns : {V : Type 0} → Kind V → V → Type 0
 Returns k v = k.Reads (k.tree v) v
 
--- a value, then what is read with it; the first fault is the result
+-- the second result, computed from the value of the first; a fault of the first is the result
 infixl 1 ◌>>=◌
 abbrev pub ◌>>=◌ : {V W : Type 0} → Result V FieldFault → (V → Result W FieldFault) → Result W FieldFault
 Ok v >>= go = go v

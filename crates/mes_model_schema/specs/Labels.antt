@@ -7,7 +7,7 @@ use Rattle.mes_model_schema.specs.KindLaws.{lawful_texts}
 use Rattle.mes_model_schema.specs.Layouts.{Layout, needs, may_have, lists, no_more, ◌⨾⨾◌, laid_out, kind_of, lawful_kind, returns_kind}
 use Rattle.mes_model_schema.specs.declared.label.Label.{Label}
 
--- key, required; value, optional
+-- the members of a label; key: required; value: optional
 abbrev pub label_layout : Layout Label
 label_layout =
     laid_out (
@@ -27,7 +27,7 @@ pub label_back : (v : Label) → label_layout.rows.table.Back (label_layout.from
 unfolding label
 label_back v back = returns_kind label_layout refl v back
 
--- labels, a list
+-- the member of Labels; labels: a list
 abbrev pub labels_layout : Layout (List Label)
 labels_layout = laid_out (lists (codes "labels") label lawful_label ⨾⨾ no_more) (λ x. x.0) (λ v. (v, tt)) (λ v. refl)
 

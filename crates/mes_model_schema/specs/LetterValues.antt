@@ -1,9 +1,9 @@
--- The base64 alphabet and its values (RFC 4648, table 1).
+-- The letters of the base64 alphabet and their values (RFC 4648, table 1).
 use Rattle.std.specs.Prelude.{◌≡◌, ℕ, ◌+◌, ◌-◌, ◌==◌, ◌<◌, nat_le, if◌then◌else◌, slice_index}
 use Rattle.base64.specs.GeneralPurpose.{engine_symbols}
 use Rattle.base64.specs.Engines.{standard}
 
--- the letter of a value
+-- the letter with this value
 abbrev pub letter_of : ℕ → ℕ
 letter_of v = slice_index (engine_symbols standard) v
 
@@ -16,6 +16,6 @@ value_of c =
     else if c == 47 then 63
     else 62
 
--- the byte is a letter
+-- the byte is a letter of the base64 alphabet
 abbrev pub IsLetter : ℕ → Type 0
 IsLetter c = (value_of c < 64) × (letter_of (value_of c) ≡ c)

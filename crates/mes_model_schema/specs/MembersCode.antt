@@ -1,4 +1,4 @@
--- The encoding of the members of an object in the logic, as tokens that are parsed back.
+-- The encoding of the members of an object as a list of tokens, which is parsed back to them.
 use Rattle.std.specs.Prelude.{◌≡◌, ℕ, List, [], ◌∷◌, ◌++◌, refl}
 use Rattle.std.proofs.Common.{◌∙◌, ap, append_assoc}
 use Rattle.std.specs.Coded.{Coded, code_by}
@@ -8,23 +8,24 @@ use Rattle.mes_json.specs.Tree.Items.{no_items, item}
 use Rattle.mes_json.specs.Tree.Members.{no_members, member}
 use Rattle.mes_json.specs.Tokens.{Token, tokens, tokens_of_items, tokens_of_members, tokens_code}
 
--- The parser state, from the end: the unnamed values and members of each open array or object.
+-- The state of the parser, which begins at the last token: for each open array or object, the
+-- values without a name and the members.
 pub data Following : Type 0 where
   nothing : Following
   inside : Items → Members → Following → Following
 
--- a value, then the rest
+-- the state after parsing a value before the tokens parsed so far
 abbrev before : Tree → Following → Following
 before t nothing = nothing
 before t (inside ts ms b) = inside (item t ts) ms b
 
--- a name before its value
+-- the state after parsing a name: the first value without a name becomes a member
 abbrev named : List ℕ → Following → Following
 named n nothing = nothing
 named n (inside no_items ms b) = inside no_items ms b
 named n (inside (item t ts) ms b) = inside ts (member n t ms) b
 
--- the array of the innermost values
+-- the state after the start of an array, which has the innermost values
 abbrev array_of : Following → Following
 array_of nothing = nothing
 array_of (inside ts ms b) = before (array ts) b
@@ -33,7 +34,7 @@ abbrev object_of : Following → Following
 object_of nothing = nothing
 object_of (inside ts ms b) = before (object ms) b
 
--- a token, then the rest
+-- the state after parsing a token before the tokens parsed so far
 abbrev preceded : Token → Following → Following
 preceded Token.null b = before null b
 preceded (Token.boolean x) b = before (boolean x) b
@@ -48,7 +49,7 @@ abbrev following : List Token → Following
 following [] = nothing
 following (x ∷ xs) = preceded x (following xs)
 
--- items, then the rest
+-- the state after parsing items before the tokens parsed so far
 abbrev items_before : Items → Following → Following
 items_before no_items b = b
 items_before (item t ts) b = before t (items_before ts b)

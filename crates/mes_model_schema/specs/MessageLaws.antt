@@ -1,4 +1,4 @@
--- The laws of consecutive rows, and of messages.
+-- The laws of consecutive rows of a table of members, and of messages.
 use Rattle.std.proofs.Common.{◌≡◌, inl, inr, ℕ, ◌+◌, ◌<◌, ◌≤◌, max, true, List, [], ◌++◌, length, refl, ◌∙◌, ap, arith}
 use Rattle.std.proofs.lemmas.Bool.{cases_lt}
 use Rattle.std.specs.Prelude.{Ok, Err}
@@ -18,7 +18,7 @@ use Rattle.mes_model_schema.specs.RowLaws.{LawfulTable}
 use Rattle.mes_model_schema.specs.declared.field.FieldFault.{FieldFault}
 use Rattle.mes_model_schema.specs.declared.field.FieldFaultKind.TheVariants.{WrongKind}
 
--- ---- consecutive rows
+-- ---- the law of consecutive rows
 
 pub lawful_no_rows : LawfulTable no_rows 0
 lawful_no_rows = record {
@@ -31,7 +31,7 @@ lawful_no_rows = record {
   reached = λ once any. absurd (omega (arith, any));
 }
 
--- the steps of consecutive rows are the maximum of both
+-- the law of consecutive rows, whose number of steps is the maximum of both
 pub lawful_both : {F G : Type 0} {r : Table F} {s : Table G} {a b : ℕ} → LawfulTable r a → LawfulTable s b → LawfulTable (r ⨾ s) (max a b)
 lawful_both {F = F} {G = G} {r = r} {s = s} {a = a} {b = b} lr ls = record {
   sound = λ at ms x e.
@@ -98,7 +98,7 @@ lawful_both {F = F} {G = G} {r = r} {s = s} {a = a} {b = b} lr ls = record {
             (one.0, after _ _ x.0 (lr.complete at ms x.0 x.1) ∙ breaks_first (s.read at ms) _ one.0 one.1, omega (arith, one.2, less))),
       )
 
--- the law of converted rows, if the conversion has an inverse
+-- the law of rows whose values are converted, if the conversion has an inverse
 pub lawful_mapped : {F G : Type 0} {r : Table F} {steps : ℕ} (to : F → G) (from : G → F) → LawfulTable r steps → ((y : G) → to (from y) ≡ y)
     → LawfulTable (mapped r to from) steps
 lawful_mapped {F = F} {G = G} {r = r} {steps = steps} to from lr inverse = record {
@@ -120,7 +120,7 @@ lawful_mapped {F = F} {G = G} {r = r} {steps = steps} to from lr inverse = recor
     | inr h ↦ let bad = h.2 in absurd (cc)
   ]
 
--- ---- messages
+-- ---- the law of a message
 
 pub lawful_message : {A : Type 0} {r : Table A} {steps : ℕ} → LawfulTable r steps → distinct r.names ≡ true → Lawful (message r) steps
 lawful_message {A = A} {r = r} {steps = steps} lr once = record {
@@ -144,6 +144,6 @@ lawful_message {A = A} {r = r} {steps = steps} lr once = record {
     | inr h ↦ lr.within at h.0 f h.2
   ]
 
--- a message whose rows have distinct names is read back if each value in it is
+-- a message is read back if its member names are distinct and each value in it is read back
 pub message_returns : {A : Type 0} {r : Table A} {steps : ℕ} → LawfulTable r steps → distinct r.names ≡ true → (v : A) → r.Back v → Returns (message r) v
 message_returns {r = r} lr once v returns = (members_of (r.members v), refl, lr.back (members_of (r.members v)) v once (λ n named. refl) returns)

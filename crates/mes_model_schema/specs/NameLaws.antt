@@ -1,4 +1,4 @@
--- Lists of member names, and the members that were written under them.
+-- Lists of member names, and the members that are written under these names.
 use Rattle.std.proofs.Common.{◌≡◌, ◌≢◌, ℕ, Bool, true, false, List, [], ◌∷◌, ◌++◌, refl, ◌∙◌, ap, subst, cond, bytes_eq, append-nil}
 use Rattle.std.specs.Prelude.{◌||◌, ◌&&◌, not, if◌then◌else◌}
 use Rattle.std.proofs.lemmas.Slice.Eq.{bytes_eq-Decides}
@@ -22,11 +22,11 @@ abbrev pub united : List (List ℕ) → List (List ℕ) → List (List ℕ)
 united [] ns = ns
 united (m ∷ ms) ns = if is_in m ns then united ms ns else m ∷ united ms ns
 
--- under each of these names the members have exactly the values that were written
+-- under each of these names, the members of an object have exactly the written values, in order
 abbrev pub Agrees : List (List ℕ) → Members → List (List ℕ × Tree) → Type 0
 Agrees names ms own = (n : List ℕ) → is_in n names ≡ true → values_named n ms ≡ values_named n (members_of own)
 
--- no member is written under other names
+-- no member is written under a name that is not in the list
 abbrev pub Under : List (List ℕ) → List (List ℕ × Tree) → Type 0
 Under names own = (n : List ℕ) → is_in n names ≡ false → values_named n (members_of own) ≡ []
 
@@ -42,7 +42,7 @@ names_differ m n h = by_test (bytes_eq m n) refl where
   by_test false e = refl
   by_test true e = absurd (h (names_equal m n e))
 
--- ---- lists of names
+-- ---- lists of names: membership, and names that occur once
 
 pub in_front : (n : List ℕ) (xs ys : List (List ℕ)) → is_in n xs ≡ true → is_in n (xs ++ ys) ≡ true
 in_front n [] ys e = absurd (cc)
@@ -120,7 +120,7 @@ distinct_both (m ∷ xs) ys once =
     let neither = in_neither m xs ys first.0 in
     (rw (neither.0) both.0, both.1, rw (neither.1) both.2)
 
--- ---- members under a name
+-- ---- the values of the members under a name
 
 abbrev pub Pairs : Type 0
 Pairs = List (List ℕ × Tree)
@@ -162,7 +162,7 @@ under_both xs ys a b of_xs of_ys = λ n other.
     let neither = in_neither n xs ys other in
     named_append n a b ∙ ap (λ (ts : List Tree). ts ++ values_named n (members_of b)) (of_xs n neither.0) ∙ of_ys n neither.1
 
--- if both were written, consecutively, each was written
+-- if an object agrees with two consecutive lists of written members, it agrees with each of them
 pub agrees_each : (xs ys : List (List ℕ)) (ms : Members) (a b : Pairs) → apart xs ys ≡ true → Under xs a → Under ys b → Agrees (xs ++ ys) ms (a ++ b)
     → Agrees xs ms a × Agrees ys ms b
 agrees_each xs ys ms a b differ of_xs of_ys agrees = (

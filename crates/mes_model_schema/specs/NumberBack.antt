@@ -1,4 +1,4 @@
--- Written numbers are read back.
+-- Lemmas: a number is read back from the text that it is written as.
 use Rattle.std.proofs.Common.{◌≡◌, inl, inr, ℕ, suc, ◌*◌, ◌^◌, ◌<◌, ◌≤◌, Bool, true, false, List, [], ◌∷◌, length, get_or, refl, sym, ◌∙◌, ap, subst, arith, lit<, ℤ, pos, negsuc}
 use Rattle.std.specs.Prelude.{FitsSigned, decimal}
 use Rattle.std.specs.Int.{w32}
@@ -26,7 +26,7 @@ decimal_int q h = elim (eqb_tells q 0) [
     by_first [] n f = absurd (omega (arith, n.0))
     by_first (d ∷ ds) n f = let r = digit_from_value d n.1.0 in inr (omega (arith, f), r.1, n.1.1)
 
--- the parts of the text of a whole number
+-- the parts (`Numeral`) of the text of a whole number, given its sign and magnitude
 written : Bool → ℕ → Numeral
 written negative q = record { negative = negative; whole = decimal q; fraction = []; lowers = false; power = [] }
 

@@ -1,4 +1,4 @@
--- The laws of the kinds of numbers.
+-- The laws of the kinds of numbers: each tree has exactly one value or exactly one first fault.
 use Rattle.std.proofs.Common.{◌≡◌, inl, inr, ℕ, suc, ◌+◌, ◌*◌, ◌^◌, ◌<◌, ◌≤◌, Bool, true, false, ◌==◌, List, [], ◌∷◌, length, Option, Some, None, refl, sym, ◌∙◌, ap, subst, arith, zero-mul, lit<, lit≤, ℤ, pos, negsuc, ◌+ℤ◌, if◌then◌else◌}
 use Rattle.std.specs.Prelude.{◌/◌, ◌%◌, nat_lt, nat_le, Ok, Err, FitsSigned, decimal}
 use Rattle.std.specs.Fmt.{signed_decimal}
@@ -33,7 +33,7 @@ use Rattle.mes_model_schema.specs.KindLaws.{number_is}
 use Rattle.mes_model_schema.specs.declared.field.FieldFault.{FieldFault}
 use Rattle.mes_model_schema.specs.declared.field.FieldFaultKind.TheVariants.{WrongKind, NumberRange}
 
--- ---- options
+-- ---- `Option`, and comparisons of natural numbers
 
 pub when_some : {X : Type 0} (b : Bool) (x y : X) → when b x ≡ Some y → (b ≡ true) × (x ≡ y)
 when_some true x y e = (refl, cc)
@@ -67,7 +67,7 @@ pub then_some : {X Y : Type 0} (f : X → Option Y) (o : Option X) (y : Y) → o
 then_some f None y e = absurd (cc)
 then_some f (Some x) y e = (x, refl, e)
 
--- ---- the value of a text
+-- ---- a text has at most one value
 
 value_sound : {X : Type 0} (Gives : Numeral → X → Type 0) (value : Numeral → Option X) → ((n : Numeral) (x : X) → value n ≡ Some x → Gives n x)
     → (text : List ℕ) (x : X) → value_of value text ≡ Some x → ReadsNumber Gives text x
@@ -100,7 +100,7 @@ zero_spelt : Spells (48 ∷ []) zero_parts
 unfolding zero_parts
 zero_spelt = record { minus = []; frac = []; exp = []; is = refl; is_minus = refl; is_int = inl (refl, refl); is_frac = refl; is_exp = (refl, refl) }
 
--- the law of a kind of numbers that contains the one written `0`
+-- the law of a kind of numbers in which the text `0` has a value
 pub lawful_numbers : {X : Type 0} (Gives : Numeral → X → Type 0) (value : Numeral → Option X) (write : X → List ℕ)
     → ((n : Numeral) (x : X) → value n ≡ Some x → Gives n x) → ((n : Numeral) (x : X) → Gives n x → value n ≡ Some x)
     → (x : X) × Gives zero_parts x → Lawful (numbers Gives value write) 0
@@ -124,7 +124,7 @@ lawful_numbers {X} Gives value write gives says some = record {
     | inr h ↦ omega (arith, range_there at (value_of value h.0) f h.2)
   ]
 
--- ---- the value of the parts
+-- ---- the value computed from the parts of a text
 
 exact_sound : (m : ℕ) (e : ℤ) (v : ℕ) → exact m e ≡ Some v → Whole m e v
 exact_sound m (pos k) v h = cc
@@ -173,7 +173,7 @@ unsigned_complete n h = by_sign n.negative refl where
   by_sign true e = rw (h e) refl
   by_sign false e = refl
 
--- ---- whole numbers
+-- ---- the law of unsigned whole numbers
 
 whole_gives : (n : Numeral) (v : ℕ) → whole_value n ≡ Some v → GivesWhole n v
 whole_gives n v e = by_test (is_unsigned n) refl e where
@@ -202,7 +202,7 @@ pub lawful_whole : Lawful whole 0
 unfolding whole
 lawful_whole = lawful_numbers GivesWhole whole_value decimal whole_gives whole_says (0, whole_zero)
 
--- ---- signed whole numbers
+-- ---- the law of signed whole numbers
 
 signed_gives : (n : Numeral) (z : ℤ) → signed_value n ≡ Some z → GivesSigned n z
 signed_gives n z e =
@@ -229,7 +229,7 @@ pub lawful_signed32 : Lawful signed32 0
 unfolding signed32
 lawful_signed32 = lawful_numbers GivesSigned signed_value signed_decimal signed_gives signed_says (pos 0, signed_zero)
 
--- ---- decimal numbers
+-- ---- the law of decimal numbers
 
 units_give : (places : ℕ) (n : Numeral) (u : ℕ) → units_value places n ≡ Some u → GivesUnits places n u
 units_give places n u e = by_test (is_unsigned n) refl e where

@@ -1,4 +1,5 @@
--- The kinds of numbers; `mes_fixed` defines the numbers of a text, computed here from its parts.
+-- The kinds of numbers in JSON. `mes_fixed` defines which number a text represents; the functions
+-- here compute it from the parts of the text.
 use Rattle.std.specs.Prelude.{◌≡◌, ℕ, suc, ◌+◌, ◌*◌, ◌/◌, ◌%◌, ◌^◌, Bool, true, ◌==◌, nat_lt, nat_le, if◌then◌else◌, List, length, Option, Some, None, Result, Ok, ℤ, pos, negsuc, ◌+ℤ◌, decimal}
 use Rattle.std.specs.Option.{option_and_then}
 use Rattle.std.specs.Fmt.{signed_decimal}
@@ -18,7 +19,7 @@ use Rattle.mes_model_schema.specs.Leaves.{number_of}
 use Rattle.mes_model_schema.specs.declared.field.FieldFault.{FieldFault}
 use Rattle.mes_model_schema.specs.declared.field.FieldFaultKind.TheVariants.{NumberRange}
 
--- x if the test is true
+-- x if the test is true, else `None`
 abbrev pub when : {X : Type 0} → Bool → X → Option X
 when b x = if b then Some x else None
 
@@ -32,7 +33,7 @@ abbrev pub nearest : ℕ → ℤ → ℕ
 nearest m (pos k) = m * 10 ^ k
 nearest m (negsuc k) = (2 * m + 10 ^ suc k) / (2 * 10 ^ suc k)
 
--- the number has no minus sign, or is zero
+-- the text has no minus sign, or the number is zero
 abbrev pub is_unsigned : Numeral → Bool
 is_unsigned n = if n.negative then mantissa n == 0 else true
 
@@ -50,7 +51,7 @@ units_of places n = nearest (mantissa n) (exponent n +ℤ pos places)
 abbrev pub units_value : ℕ → Numeral → Option ℕ
 units_value places n = if is_unsigned n then when (nat_le (units_of places n) MAX_UNITS) (units_of places n) else None
 
--- the value of a text of at most MAX_NUMBER_TEXT bytes
+-- the value of a text, which must have at most MAX_NUMBER_TEXT bytes
 abbrev pub value_of : {X : Type 0} → (Numeral → Option X) → List ℕ → Option X
 value_of value text = if nat_le (length text) MAX_NUMBER_TEXT then option_and_then value (run AtStart blank text) else None
 
@@ -58,7 +59,7 @@ abbrev pub or_range : {X : Type 0} → List Place → Option X → Result X Fiel
 or_range at None = fault at NumberRange
 or_range at (Some x) = Ok x
 
--- the numbers with a value in X, and the text it is written as
+-- the kind of numbers with values in X: which numbers have a value, and the text of a value
 abbrev pub numbers : {X : Type 0} → (Numeral → X → Type 0) → (Numeral → Option X) → (X → List ℕ) → Kind X
 numbers Gives value write = record {
   Reads = λ t x. (text : List ℕ) × (t ≡ number text) × ReadsNumber Gives text x;
@@ -66,14 +67,14 @@ numbers Gives value write = record {
   tree = λ x. number (write x);
 }
 
--- unsigned 64-bit whole numbers
+-- the kind of unsigned 64-bit whole numbers
 unfoldable pub whole : Kind ℕ
 whole = numbers GivesWhole whole_value decimal
 
--- signed 32-bit whole numbers
+-- the kind of signed 32-bit whole numbers
 unfoldable pub signed32 : Kind ℤ
 signed32 = numbers GivesSigned signed_value signed_decimal
 
--- decimal numbers in units of 10^-places, rounded to the nearest
+-- the kind of decimal numbers, in units of 10^-places and rounded to the nearest unit
 unfoldable pub fixed : ℕ → Kind ℕ
 fixed places = numbers (GivesUnits places) (units_value places) (text_of places)

@@ -4,7 +4,7 @@ use Rattle.mes_json.specs.Tree.{Tree, Members}
 use Rattle.mes_json.specs.Tree.Tree.{null, boolean, number, string, array, object}
 use Rattle.mes_json.specs.Tree.Members.{no_members}
 
--- the members of an object, and none for any other tree
+-- the members of an object; any other tree has no members
 abbrev pub members_in : Tree → Members
 members_in (object ms) = ms
 members_in null = no_members

@@ -1,4 +1,4 @@
--- The steps of a path builder: those of the path before it, and the last one.
+-- The steps of a path builder: the steps of the path that it borrows, and the last step.
 use Rattle.std.specs.Prelude.{◌<◌, List, [], ◌∷◌, ◌++◌, length}
 use Rattle.mes_model_schema.specs.Paths.{Place, IsPlace}
 use Rattle.mes_model_schema.specs.Steps.{place_of}
@@ -11,7 +11,7 @@ places Start = []
 places (Along path) = path.now
 places (Below above step) = above.now ++ place_of step ∷ []
 
--- the last step is a place, and the path before has room for it
+-- the last step is a valid place, and the path before it has fewer than 16 steps
 abbrev pub HasRoom : Link → Type 0
 HasRoom Start = Unit {0}
 HasRoom (Along path) = Unit {0}

@@ -3,7 +3,7 @@ use Rattle.std.specs.Prelude.{ℕ, ◌<◌, ◌≤◌, ◌^◌, List, [], ◌∷
 use Rattle.std.specs.List.{flat_map}
 use Rattle.mes_model_schema.specs.declared.limits.TheConstants.{MAX_PATH_NAME, MAX_PATH_STEPS}
 
--- A member by its name, or an element by its index.
+-- A step: to a member by its name, or to an element by its index.
 pub data Place : Type 0 where
   name : List ℕ → Place
   index : ℕ → Place
@@ -18,7 +18,7 @@ pub record IsPath (at : List Place) : Type 0 where
   pub few : length at ≤ MAX_PATH_STEPS
   pub each : All IsPlace at
 
--- the text of a step after another
+-- the text of a step that is not the first
 abbrev pub step_text : Place → List ℕ
 step_text (name n) = codes "." ++ n
 step_text (index i) = codes "[" ++ decimal i ++ codes "]"

@@ -1,4 +1,5 @@
--- The laws of a row: exact reading, reading back, and the depth of faults.
+-- The laws of a table of members: `read` decides `Reads`, written values are read back, and the
+-- depth of faults is bounded.
 use Rattle.std.proofs.Common.{◌≡◌, ◌⊎◌, inl, inr, ℕ, ◌+◌, ◌≤◌, Bool, true, false, List, [], ◌∷◌, length, Option, Some, None, refl, ◌∙◌, subst, arith}
 use Rattle.std.specs.Prelude.{Ok, Err}
 use Rattle.mes_json.specs.Tree.{Tree, Members}
@@ -20,27 +21,27 @@ use Rattle.mes_model_schema.specs.declared.field.FieldFault.{FieldFault}
 use Rattle.mes_model_schema.specs.declared.field.FieldFaultKind.TheVariants.{Missing, WrongKind, LeftOut}
 
 pub record LawfulTable {F : Type 0} (r : Table F) (steps : ℕ) : Type 0 where
-  -- `read` returns exactly what `Reads` says, at any path
+  -- at any path, `read` returns x if and only if `Reads` relates the members to x
   pub sound : (at : List Place) (ms : Members) (x : F) → r.read at ms ≡ Ok x → r.Reads ms x
   pub complete : (at : List Place) (ms : Members) (x : F) → r.Reads ms x → r.read at ms ≡ Ok x
-  -- what was written is read back, if no name occurs twice
+  -- x is read back from the members that it is written as, if the table has each name once
   pub back : (ms : Members) (x : F) → distinct r.names ≡ true → Agrees r.names ms (r.members x) → r.Back x → r.Reads ms x
-  -- no member is written under other names
+  -- no member is written under a name that the table does not have
   pub only : (n : List ℕ) (x : F) → is_in n r.names ≡ false → values_named n (members_of (r.members x)) ≡ []
-  -- some members are read, if no name occurs twice
+  -- some members are read as a value, if the table has each name once
   pub sample : distinct r.names ≡ true → SomeRead r.names r.Reads
   -- faults are at most `steps` steps below the object, and if steps ≥ 1 some fault is that deep
   pub within : (at : List Place) (ms : Members) (f : FieldFault) → r.read at ms ≡ Err f → length f.path ≤ length at + steps
   pub reached : distinct r.names ≡ true → 1 ≤ steps → SomeDeep r.names r.read steps
 
--- ---- one member
+-- ---- the laws of a table with one row
 
--- the member written under the name of a row is present
+-- if the member of a row was written, the object has it
 held : {A : Type 0} {steps : ℕ} (k : Kind A) → Lawful k steps → (n : List ℕ) (ms : Members) (t : Tree) (v : A) → Agrees (n ∷ []) ms ((n, t) ∷ []) → k.Reads t v
     → Has ms n t
 held k lawful n ms t v agrees reads = has_one n ms t (λ e. lawful.no_null v (subst (λ (u : Tree). k.Reads u v) e reads)) agrees
 
--- no member is written under the name of a row
+-- if no member was written under the name of a row, the object has none
 free : (n : List ℕ) (ms : Members) → Agrees (n ∷ []) ms [] → Lacks ms n
 free n ms agrees = inl (agrees n (is_only n))
 
@@ -114,7 +115,7 @@ lawful_maybe {A = A} {n = n} {k = k} {steps = steps} lawful = record {
     | inr h ↦ let bad = h.2 in absurd (cc)
   ]
 
--- an unsupported member is absent
+-- the law of an unsupported member, which must be absent
 pub lawful_left_out : {n : List ℕ} → LawfulTable (maybe n left_out) 1
 unfolding optional left_out
 lawful_left_out {n = n} = record {

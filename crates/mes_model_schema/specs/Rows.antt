@@ -1,4 +1,4 @@
--- The rows of the table of a message: the members that each reads and writes, and their value.
+-- The table of a message: which members each row reads and writes, and with which value.
 use Rattle.std.specs.Prelude.{◌≡◌, ◌⊎◌, ℕ, Bool, true, false, List, [], ◌∷◌, ◌++◌, Option, Some, None, Result, Ok}
 use Rattle.mes_json.specs.Tree.{Tree, Members}
 use Rattle.mes_json.specs.Tree.Tree.{object}
@@ -12,20 +12,20 @@ use Rattle.mes_model_schema.specs.Lists.{list_of}
 use Rattle.mes_model_schema.specs.declared.field.FieldFault.{FieldFault}
 use Rattle.mes_model_schema.specs.declared.field.FieldFaultKind.TheVariants.{Missing}
 
--- How the members of an object are read as an F and written.
+-- A table: how the members of an object are read as a value of type F, and how it is written.
 pub record Table (F : Type 0) : Type 1 where
   -- the names of the members that are read
   pub names : List (List ℕ)
   -- the members are read as x
   pub Reads : Members → F → Type 0
-  -- the value of the members of an object at a path, or the first fault
+  -- given the path of an object, the value of its members, or the first fault
   pub read : List Place → Members → Result F FieldFault
   -- the members that x is written as
   pub members : F → List (List ℕ × Tree)
   -- each value in x is read back from its own tree
   pub Back : F → Type 0
 
--- ---- a required member
+-- ---- the row of a required member
 
 abbrev pub must : {V : Type 0} → Kind V → List Place → Option Tree → Result V FieldFault
 must k at None = fault at Missing
@@ -43,7 +43,7 @@ need {V} n k = record {
   Back = λ v. Returns k v;
 }
 
--- ---- an optional member
+-- ---- the row of an optional member
 
 abbrev pub HasSome : {V : Type 0} → List ℕ → Kind V → Members → Option V → Type 0
 HasSome n k ms None = Lacks ms n
@@ -73,7 +73,7 @@ maybe {V} n k = record {
   Back = ReturnsSome k;
 }
 
--- ---- a list, empty if its member is absent
+-- ---- the row of a list, which is empty if its member is absent
 
 abbrev pub listed : {V : Type 0} → Kind V → List Place → Option Tree → Result (List V) FieldFault
 listed k at None = Ok []
@@ -99,7 +99,7 @@ many {V} n k = record {
   Back = ReturnsEach k;
 }
 
--- ---- a flag: an object that is present or absent, with its members ignored
+-- ---- the row of a flag: an object that is present or absent, and whose members are ignored
 
 abbrev pub IsFlag : List ℕ → Members → Bool → Type 0
 IsFlag n ms false = Lacks ms n
@@ -125,13 +125,13 @@ flag n = record {
   Back = λ x. Unit {0};
 }
 
--- ---- consecutive rows
+-- ---- tables of no rows, of consecutive rows, and of converted values; messages
 
--- no row
+-- the table without rows
 abbrev pub no_rows : Table (Unit {0})
 no_rows = record { names = []; Reads = λ ms x. Unit {0}; read = λ at ms. Ok tt; members = λ x. []; Back = λ x. Unit {0} }
 
--- the first rows, then the second
+-- the table of the first rows followed by the second rows
 infixr 4 ◌⨾◌
 abbrev pub ◌⨾◌ : {F G : Type 0} → Table F → Table G → Table (F × G)
 r ⨾ s = record {
@@ -142,7 +142,7 @@ r ⨾ s = record {
   Back = λ x. r.Back x.0 × s.Back x.1;
 }
 
--- the same rows, with values converted between F and G
+-- the table with its values converted between F and G
 abbrev pub mapped : {F G : Type 0} → Table F → (F → G) → (G → F) → Table G
 mapped {F} r to from = record {
   names = r.names;
@@ -152,7 +152,7 @@ mapped {F} r to from = record {
   Back = λ y. r.Back (from y);
 }
 
--- an object with these rows; members of other names are ignored
+-- the kind of objects with this table; members of other names are ignored
 abbrev pub message : {V : Type 0} → Table V → Kind V
 message r = record {
   Reads = λ t v. (ms : Members) × (t ≡ object ms) × r.Reads ms v;

@@ -1,4 +1,5 @@
--- The number of steps from a tree to its faults: none, or those into a member.
+-- The number of steps from a tree to its faults: 0 for a fault of the tree itself, and 1 or more
+-- for a fault in a member.
 use Rattle.std.proofs.Common.{◌≡◌, ◌≢◌, inl, inr, ℕ, ◌+◌, ◌≤◌, List, [], ◌∷◌, length, Option, Some, None, ◌∙◌, ap, arith, length-append}
 use Rattle.std.specs.Prelude.{Result, Err}
 use Rattle.mes_json.specs.Tree.{Tree, Members}
@@ -14,11 +15,12 @@ use Rattle.mes_model_schema.specs.declared.field.FieldFault.{FieldFault}
 use Rattle.mes_model_schema.specs.declared.field.FieldFaultKind.{FieldFaultKind}
 use Rattle.mes_model_schema.specs.declared.field.FieldFaultKind.TheVariants.{WrongKind, Twice}
 
--- Some members, under these names only, are read.
+-- Some members, all of them under these names, are read as a value.
 abbrev pub SomeRead : {F : Type 0} → List (List ℕ) → (Members → F → Type 0) → Type 0
 SomeRead {F} names Reads = (own : Pairs) × Under names own × ((ms : Members) → Agrees names ms own → (x : F) × Reads ms x)
 
--- Some members, under these names only, have at every path a fault this many steps below it.
+-- Some members, all of them under these names, have at every path a fault this number of steps
+-- below that path.
 abbrev pub SomeDeep : {F : Type 0} → List (List ℕ) → (List Place → Members → Result F FieldFault) → ℕ → Type 0
 SomeDeep names read steps =
     (own : Pairs) × Under names own
@@ -29,7 +31,7 @@ SomeDeep names read steps =
 pub fault_there : {V : Type 0} (at : List Place) (why : FieldFaultKind) (f : FieldFault) → fault {V = V} at why ≡ Err f → length f.path ≡ length at
 fault_there {V} at why f e = let same : f ≡ record { path = at; why = why } = cc in ap (λ (g : FieldFault). length g.path) same
 
--- the fault of another JSON kind is at the path of the tree
+-- the fault `WrongKind` is at the path of the tree
 pub expected_there : {V : Type 0} (at : List Place) (o : Option V) (f : FieldFault) → expected at o ≡ Err f → length f.path ≡ length at
 expected_there at None f e = fault_there at WrongKind f e
 expected_there at (Some v) f e = absurd (cc)
@@ -48,7 +50,7 @@ looked_there at n ms f e = by_values (values_named n ms) e where
   by_values (t ∷ []) e = absurd (cc)
   by_values (t ∷ u ∷ ts) e = fault_there (below at n) Twice f e ∙ length-append at (name n ∷ [])
 
--- a fault of a row is one step below the message, or in the value of the row
+-- a fault of a row is one step below the message, or in the value of the member
 pub row_within : {F : Type 0} (n : List ℕ) (steps : ℕ) (value : List Place → Option Tree → Result F FieldFault)
     → ((at : List Place) (o : Option Tree) (f : FieldFault) → value at o ≡ Err f → length f.path ≤ length at + steps)
     → (at : List Place) (ms : Members) (f : FieldFault) → (lookup at n ms >>= value (below at n)) ≡ Err f → length f.path ≤ length at + (1 + steps)
@@ -57,7 +59,7 @@ row_within n steps value within at ms f e = elim (broken (lookup at n ms) (value
   | inr h ↦ omega (arith, within (below at n) h.0 f h.2, length-append at (name n ∷ []))
 ]
 
--- a fault in a value is one step deeper in the row that has it
+-- a fault in the value of a member is one step deeper in the message
 pub row_deep : {F : Type 0} (n : List ℕ) (steps : ℕ) (value : List Place → Option Tree → Result F FieldFault) (t : Tree) → t ≢ null
     → ((at : List Place) → (f : FieldFault) × (value at (Some t) ≡ Err f) × (length f.path ≡ length at + steps))
     → SomeDeep (n ∷ []) (λ at ms. lookup at n ms >>= value (below at n)) (1 + steps)

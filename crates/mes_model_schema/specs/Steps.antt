@@ -1,4 +1,4 @@
--- The place that a step of a path names.
+-- The member or element (`Place`) that a step of a path leads to.
 use Rattle.mes_model_schema.specs.Paths.{Place}
 use Rattle.mes_model_schema.specs.Paths.Place.{name, index}
 use Rattle.mes_model_schema.specs.declared.path.Step.{Step}

@@ -1,5 +1,5 @@
-//! Canonical JSON text written straight from values; `write_row` builds trees instead. Each member
-//! or item follows a comma, and `close_object` or `close_array` turns the first comma into a
+//! Canonical JSON text written from values without a tree; `write_row` builds trees. Each member or
+//! item follows a comma, and `close_object` or `close_array` turns the first comma into the opening
 //! bracket. On `NoMemory` the content of `out` is unspecified.
 
 ghost use Rattle.std.specs.Prelude.{◌≡◌, ℕ, [], ◌∷◌, ◌++◌, List as list, length, map, max, IfOk, OnOk};
@@ -72,7 +72,7 @@ pub fn write_repeated_text<T: Part>(
     list_text(alloc, values, out)
 }
 
-/// Appends the member of a flag, `{}`, and nothing if the flag is unset.
+/// Appends the member of a flag with the value `{}`, and nothing if the flag is unset.
 pub fn write_flag_text(name: &str, set: bool, out: &mut Vec<u8>) -> Result<u64, NoMemory>
     ensures { IfOk result (λ deep. AppendsMembers out.old.items ((flag name.now).members set)
         out.new.items deep) }
@@ -96,7 +96,7 @@ pub fn write_type_text(kind: &str, out: &mut Vec<u8>) -> Result<u64, NoMemory>
     Ok(0)
 }
 
-/// Appends the member `type` and the member of the body.
+/// Appends the member `type`, and the member `name` with the body as its value.
 #[tactic(auto, using(crate::proofs::AppendLemmas::both_members))]
 pub fn write_case_text<T: Part>(
     alloc: Global,
@@ -164,8 +164,8 @@ pub fn deeper(one: u64, other: u64) -> u64
     if one < other { other } else { one }
 }
 
-/// Makes an object of the members appended from offset `start` on. `deepest` is the greatest depth
-/// of their values. Returns the depth of the object.
+/// Makes an object of the members appended to `out` from offset `start` on. `deepest` is the
+/// greatest nesting depth of their values. Returns the nesting depth of the object.
 #[tactic(auto, using(crate::proofs::AppendLemmas::whole_object))]
 pub fn close_object(deepest: u64, start: usize, out: &mut Vec<u8>) -> Result<u64, NoMemory>
     // If `out` had `start` bytes before the members: on success the text of the object follows

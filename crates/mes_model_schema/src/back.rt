@@ -1,5 +1,5 @@
-//! Laws that a value at hand is read back from the tree that it is written as. They do not allocate.
-//! `Part::reads_back` (part.rt) is the law of one value; these are for options, lists and rows.
+//! Proves that a value is read back from the tree that it is written as. `Part::reads_back`
+//! (part.rt) proves it for one value, these functions for an `Option`, a `List` and a message.
 
 ghost use Rattle.std.specs.Prelude.{map};
 ghost use Rattle.mes_model_schema.specs.Rows.{ReturnsSome, ReturnsEach};
@@ -8,7 +8,7 @@ use crate::list::List;
 use crate::part::Part;
 use crate::row_ref_list::RowRefList;
 
-/// Shows that the value, if there is one, is read back from its tree. Does not allocate.
+/// Shows that the value in an `Option`, if any, is read back from its tree. Does not allocate.
 pub fn some_reads_back<T: Part>(value: &Option<T>)
     ensures { ReturnsSome T.kind value.now }
 {
@@ -26,7 +26,7 @@ pub fn list_reads_back<T: Part>(values: &List<T>)
     }
 }
 
-/// Shows that each value of a message's rows is read back from its tree. Does not allocate.
+/// Shows that the value of each member of a message is read back from its tree. Does not allocate.
 pub fn message_reads_back<R: RowRefList>(names: &[&str], rows: &R)
     ensures { (R.table (map (λ n. n.now) names.now) 0).Back (R.values rows.now) }
 {

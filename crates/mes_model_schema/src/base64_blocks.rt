@@ -1,5 +1,5 @@
-//! Blocks of sixteen base64 letters (RFC 4648 section 4), decoded with SIMD; `groups` decodes the
-//! rest.
+//! Blocks of sixteen base64 letters (RFC 4648 section 4), decoded with SIMD; `base64_text` decodes
+//! the rest.
 ghost use Rattle.std.specs.Prelude.{◌≡◌, ◌<◌, ◌≤◌, ◌+◌, ◌-◌, ◌*◌, ◌/◌, length, take, drop, map};
 ghost use Rattle.std.specs.Simd.Lanes.{Each1};
 ghost use Rattle.base64.specs.GeneralPurpose.{encode_of};
@@ -8,23 +8,25 @@ ghost use Rattle.mes_model_schema.specs.LetterValues.{letter_of, value_of, IsLet
 
 use std::simd::prelude::*;
 
-/// By the lower four bits of a byte: the classes of rows in which it is no letter, a bit each.
+/// By the lower four bits of a byte: a bit for each class of `BY_HIGH` in which such a byte is no
+/// letter.
 const BY_LOW: [u8; 16] = [
     0x15, 0x11, 0x11, 0x11, 0x11, 0x11, 0x11, 0x11, 0x11, 0x11, 0x13, 0x1A, 0x1B, 0x1B, 0x1B, 0x1A,
 ];
 
-/// By the upper four bits of a byte: the class of its row of the ASCII table. 1: `+` and `/`; 2:
-/// digits; 4: `A` to `O`; 8: `P` to `Z`; 16: no letters.
+/// By the upper four bits of a byte: the class of the sixteen bytes that share those bits. 1: `+`
+/// and `/`; 2: digits; 4: `A` to `O` or `a` to `o`; 8: `P` to `Z` or `p` to `z`; 16: no letters.
 const BY_HIGH: [u8; 16] = [
     0x10, 0x10, 0x01, 0x02, 0x04, 0x08, 0x04, 0x08, 0x10, 0x10, 0x10, 0x10, 0x10, 0x10, 0x10, 0x10,
 ];
 
-/// By the row of a letter: what is added to it for its value, modulo 256. Index 1 is for `/` alone.
+/// By the upper four bits of a letter: the number that is added to it to get its value, modulo 256.
+/// Index 1 is for `/` alone.
 const TO_VALUE: [u8; 16] = [0, 16, 19, 4, 191, 191, 185, 185, 0, 0, 0, 0, 0, 0, 0, 0];
 
-/// Decodes blocks up to the first with a byte that is no letter, and returns their number. Each
-/// writes four bytes too many, which later bytes overwrite. So the last five bytes of the text are
-/// left.
+/// Decodes the blocks before the first one that has a byte that is no letter, and returns their
+/// number. Each block writes four bytes too many, which later bytes overwrite. So the last five
+/// bytes of the text are not decoded.
 #[inline(always)]
 pub(crate) fn decode_blocks(text: &[u8], octets: &mut [u8]) -> usize
     requires { (length text.now + 3) / 4 * 3 ≡ length octets.old }
@@ -64,8 +66,8 @@ fn values(letters: u8x16) -> u8x16
     letters + u8x16::from_array(TO_VALUE).swizzle_dyn(row)
 }
 
-/// Packs sixteen 6-bit values into twelve bytes, followed by four without meaning. Four values make
-/// a 24-bit number, stored highest byte first.
+/// Packs sixteen 6-bit values into twelve bytes, followed by four unused bytes. Four values make a
+/// 24-bit number, stored highest byte first.
 #[inline(always)]
 fn packed(values: u8x16) -> u8x16
     ensures lanes { length result ≡ 16 }

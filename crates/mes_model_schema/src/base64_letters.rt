@@ -1,10 +1,10 @@
-//! Tables of base64 letters (RFC 4648 section 4). Each letter of a group adds its bits to a sum,
-//! which has the first byte of the group in its lowest eight bits.
+//! Tables of base64 letters (RFC 4648 section 4). The entries of the four letters of a group add up
+//! to the three bytes of the group, the first byte in the lowest eight bits of the sum.
 
-/// The entry of a byte that is no letter, greater than the sum of any four letters.
+/// The entry of a byte that is no letter, greater than the sum of the entries of any four letters.
 pub(crate) const NO: u32 = 0x100_0000;
 
-/// The first letter of a group: the upper six bits of the first byte.
+/// Entries of the first letter of a group: the upper six bits of the first byte.
 pub(crate) const FIRST: [u32; 256] = [
     NO, NO, NO, NO, NO, NO, NO, NO, NO, NO, NO, NO, NO, NO, NO, NO, NO, NO, NO, NO, NO, NO, NO, NO,
     NO, NO, NO, NO, NO, NO, NO, NO, NO, NO, NO, NO, NO, NO, NO, NO, NO, NO, NO, 248, NO, NO, NO,
@@ -20,7 +20,8 @@ pub(crate) const FIRST: [u32; 256] = [
     NO, NO, NO,
 ];
 
-/// The second letter: the lower two bits of the first byte and the upper four of the second.
+/// Entries of the second letter: the lower two bits of the first byte and the upper four of the
+/// second byte.
 pub(crate) const SECOND: [u32; 256] = [
     NO, NO, NO, NO, NO, NO, NO, NO, NO, NO, NO, NO, NO, NO, NO, NO, NO, NO, NO, NO, NO, NO, NO, NO,
     NO, NO, NO, NO, NO, NO, NO, NO, NO, NO, NO, NO, NO, NO, NO, NO, NO, NO, NO, 57347, NO, NO, NO,
@@ -37,7 +38,8 @@ pub(crate) const SECOND: [u32; 256] = [
     NO, NO, NO, NO, NO, NO, NO, NO, NO, NO, NO, NO, NO, NO, NO,
 ];
 
-/// The third letter: the lower four bits of the second byte and the upper two of the third.
+/// Entries of the third letter: the lower four bits of the second byte and the upper two of the
+/// third byte.
 pub(crate) const THIRD: [u32; 256] = [
     NO, NO, NO, NO, NO, NO, NO, NO, NO, NO, NO, NO, NO, NO, NO, NO, NO, NO, NO, NO, NO, NO, NO, NO,
     NO, NO, NO, NO, NO, NO, NO, NO, NO, NO, NO, NO, NO, NO, NO, NO, NO, NO, NO, 8392448, NO, NO,
@@ -55,7 +57,7 @@ pub(crate) const THIRD: [u32; 256] = [
     NO, NO, NO, NO, NO, NO, NO, NO, NO, NO, NO, NO, NO, NO, NO, NO, NO, NO, NO, NO, NO, NO,
 ];
 
-/// The fourth letter: the lower six bits of the third byte.
+/// Entries of the fourth letter: the lower six bits of the third byte.
 pub(crate) const FOURTH: [u32; 256] = [
     NO, NO, NO, NO, NO, NO, NO, NO, NO, NO, NO, NO, NO, NO, NO, NO, NO, NO, NO, NO, NO, NO, NO, NO,
     NO, NO, NO, NO, NO, NO, NO, NO, NO, NO, NO, NO, NO, NO, NO, NO, NO, NO, NO, 4063232, NO, NO,

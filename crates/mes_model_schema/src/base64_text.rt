@@ -1,5 +1,5 @@
-//! Padded base64 (RFC 4648 section 4): `blocks` decodes the front, the tables of `letters` the
-//! rest.
+//! Padded base64 (RFC 4648 section 4). `base64_blocks` decodes the front of a text, the tables of
+//! `base64_letters` decode the rest.
 ghost use Rattle.std.specs.Prelude.{◌≡◌, ◌≤◌, ◌<◌, ◌+◌, ◌*◌, ◌/◌, length, take, drop, IfOk, IfErr, IfSome};
 ghost use Rattle.std.specs.Int.{w32, to_le_bytes};
 ghost use Rattle.base64.specs.GeneralPurpose.{IsBytes, IsDecodeFailure, encode_of};
@@ -11,7 +11,7 @@ use base64::engine::general_purpose::STANDARD;
 use base64::{DecodeAllocError, decoded_len_estimate};
 use std::alloc::Global;
 
-/// The byte that fills the last group of a text.
+/// The padding byte, which fills the last group of a base64 text.
 const PADDING: u8 = b'=';
 
 /// Decodes a text. An invalid text is decoded again by the `base64` crate, which returns the error.
@@ -33,8 +33,8 @@ pub(crate) fn decoded(alloc: Global, text: &[u8]) -> Result<Vec<u8>, DecodeAlloc
     }
 }
 
-/// Decodes a text and returns the number of bytes, or `None` if it is empty or invalid. `None` is
-/// always safe: the caller then uses the other decoder.
+/// Decodes a text and returns the number of bytes, or `None` if the text is empty or invalid. After
+/// `None` the caller uses the decoder of the `base64` crate.
 fn decode_into(text: &[u8], octets: &mut [u8]) -> Option<usize>
     requires { (length text.now + 3) / 4 * 3 ≡ length octets.old }
     ensures exact { IfSome result (λ n. text.now ≡ encode_of standard (take n octets.new)) }
@@ -47,8 +47,9 @@ fn decode_into(text: &[u8], octets: &mut [u8]) -> Option<usize>
     Some(place + count)
 }
 
-/// Decodes groups up to the last one, or to the first with a byte that is no letter, and returns
-/// their number. After the blocks, each writes one byte too many, which the next one overwrites.
+/// Decodes the groups before the last one, or before the first that has a byte that is no letter,
+/// and returns their number. Each group after the blocks writes one byte too many, which the next
+/// group overwrites.
 #[inline(never)]
 fn decode_front(text: &[u8], octets: &mut [u8]) -> usize
     requires { (length text.now + 3) / 4 * 3 ≡ length octets.old }
@@ -80,8 +81,8 @@ fn group_bytes(text: &[u8], at: usize) -> u32
         + FOURTH[text[at + 3] as usize]
 }
 
-/// Decodes the last group: the number of its bytes, and the sum of its table entries. Returns
-/// `None` if it is invalid, or has unused bits that are not zero.
+/// Decodes the last group: returns the number of its bytes, and the sum of its table entries.
+/// Returns `None` if the group is invalid, or has unused bits that are not zero.
 fn last_group(text: &[u8]) -> Option<(usize, u32)>
     ensures four { IfSome result (λ r. length text.now ≡ 4) }
     ensures few { IfSome result (λ r. r.0 ≤ 3) }

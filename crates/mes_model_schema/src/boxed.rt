@@ -1,4 +1,4 @@
-//! A heap-allocated value, so that what contains it is small.
+//! A heap-allocated value, so that the struct or enum with it is small.
 
 ghost use Rattle.std.specs.Prelude.{◌≡◌, IfOk};
 
@@ -9,7 +9,8 @@ use mes_json::{Element, Json, NoMemory};
 use std::alloc::Global;
 use std::marker::Model;
 
-/// A heap-allocated value, so that what contains it is small. In contracts it is the value itself.
+/// A heap-allocated value, so that the struct or enum with it is small. In contracts a `Boxed` is
+/// the value in it.
 #[derive(Debug, Drop)]
 pub struct Boxed<T> {
     value: Box<T>,
@@ -52,7 +53,7 @@ impl<T: Drop> Boxed<T> {
     }
 }
 
-/// Reads, writes and copies like the value in it.
+/// A `Boxed` is read, written and copied like the value in it.
 impl<T: Part> Part for Boxed<T> {
     ghost kind = { T.kind };
 

@@ -1,4 +1,4 @@
-//! Binary data, which JSON has as a string of padded base64; `groups` and `blocks` decode it.
+//! Binary data, in JSON a string of padded base64; `base64_text` and `base64_blocks` decode it.
 
 ghost use Rattle.std.specs.Prelude.{◌≡◌, [], IsTrue, ◌↔◌, length, IfOk, OnOk};
 ghost use Rattle.mes_json.specs.View.{view};
@@ -19,8 +19,8 @@ use std::alloc::Global;
 use std::hash::{Hash, Hasher};
 use std::marker::Model;
 
-/// Owned bytes, in JSON a string of padded base64 (RFC 4648 section 4). In contracts a list of
-/// bytes.
+/// Owned bytes, in JSON a string of padded base64 (RFC 4648 section 4). In contracts their value is
+/// a list of bytes.
 #[derive(Debug, Drop)]
 pub struct Bytes {
     octets: Vec<u8>,
@@ -49,7 +49,7 @@ impl Bytes {
         self.octets.as_slice()
     }
 
-    /// Returns the bytes in the vector that held them.
+    /// Returns the vector with the bytes, without a copy.
     pub fn into_vec(self) -> Vec<u8>
         ensures { result.items ≡ self }
     {
@@ -144,7 +144,7 @@ impl Part for Bytes {
     }
 }
 
-/// Builds the JSON string of the base64 text.
+/// Builds the JSON string of the base64 text of `octets`.
 fn base64_tree(alloc: Global, octets: &[u8]) -> Result<Json, NoMemory>
     ensures tree { IfOk result (λ t. view t ≡ base64_bytes.tree octets.now) }
     ensures back { OnOk result (Returns base64_bytes octets.now) }

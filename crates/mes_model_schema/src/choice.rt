@@ -16,15 +16,15 @@ use crate::path_builder::PathBuilder;
 use mes_json::{Json, NoMemory, Text};
 use std::alloc::Global;
 
-/// A value with a member `type` and the rows of that type, such as `SCALAR` or `SET`.
+/// A value with a member `type`, such as `SCALAR` or `SET`, and the members of that type.
 pub trait Choice: Drop {
     // The names of the members that are read under at least one type, `type` first.
     ghost names: { list (list ℕ) };
 
-    // The row `type` and the rows of each type.
+    // The table with the row `type` and the rows of each type.
     ghost table: { Table Self };
 
-    // The most steps from the message to a fault in the value.
+    // The most steps from the message to a fault in the typed value.
     ghost STEPS: { ℕ };
 
     ghost COUNT: { ℕ };
@@ -32,8 +32,8 @@ pub trait Choice: Drop {
     /// The number of member names under all types together, `type` included.
     const COUNT: usize;
 
-    /// Reads the value, or returns the first fault. `found` begins with what was found under its
-    /// names, `type` first.
+    /// Reads the value, or returns the first fault. `found` begins with the members found under the
+    /// names of the value, `type` first.
     fn read_choice(
         alloc: Global,
         found: &[Found<'_>],
@@ -44,8 +44,8 @@ pub trait Choice: Drop {
         ensures { (ms : Members) → FindsEach 0 names ms found.now
             → Gives (table.read path.now ms) result };
 
-    /// Appends the member `type` and the members of that type. On `NoMemory` only some may be
-    /// appended.
+    /// Appends the member `type` and the members of that type. On `NoMemory` some of them may have
+    /// been appended.
     fn push_choice_tree(
         &self,
         members: &mut Vec<(Text, Json)>,
@@ -57,18 +57,19 @@ pub trait Choice: Drop {
             (pairs_view members.new.items)) }
         ensures back { OnOk result (table.Back self.now) };
 
-    /// Appends the texts of those members, each after a comma, and returns the greatest depth of
-    /// their values. On `NoMemory` the content of `out` is unspecified.
+    /// Appends the texts of the member `type` and the members of that type, each after a comma.
+    /// Returns the greatest nesting depth of their values. On `NoMemory` the content of `out` is
+    /// unspecified.
     fn write_choice_text(&self, alloc: Global, out: &mut Vec<u8>) -> Result<u64, NoMemory>
         ensures members { IfOk result (λ deep. AppendsMembers out.old.items (table.members self.now)
             out.new.items deep) }
         ensures back { OnOk result (table.Back self.now) };
 
-    /// Copies the value.
+    /// Copies the typed value.
     fn copy_choice(&self, alloc: Global) -> Result<Self, NoMemory>
         ensures { IfOk result (λ v. v ≡ self.now) };
 
-    /// Shows that each value of its rows is read back from its tree. Does not allocate.
+    /// Shows that the value of each member is read back from its tree. Does not allocate.
     fn choice_reads_back(&self)
         ensures { table.Back self.now };
 

@@ -11,22 +11,22 @@ use crate::path::Path;
 pub enum FieldFaultKind {
     /// A required member is absent or `null`.
     Missing,
-    /// Two or more members have the name.
+    /// Two or more members have the name of the field.
     Twice,
-    /// The value has another JSON kind than the field, such as a number for a string.
+    /// The value has another JSON type than the field, such as a number instead of a string.
     WrongKind,
     /// The string is none of the names that the field may have.
     UnknownName,
     /// The string is not padded base64 (RFC 4648 section 4).
     BadBase64,
-    /// The number is out of the range of the field, or is not whole although the field is.
+    /// The number is out of the range of the field, or has a fraction and the field is an integer.
     NumberRange,
     /// The field belongs to a part of the protocol that is not supported.
     LeftOut,
 }
 
 impl FieldFaultKind {
-    /// Returns the name as it is printed.
+    /// Returns the printed name of the reason.
     pub fn name(self) -> &'static str
         ensures text { result.now ≡ field_fault_kind_name self }
         ensures bound { length result.now ≤ 11 }
@@ -46,8 +46,8 @@ impl FieldFaultKind {
 /// The first position at which a JSON value is not the expected message, and the reason.
 #[derive(Debug, Drop)]
 pub struct FieldFault {
-    /// The steps from the root of the value to that position.
+    /// The steps from the root of the JSON value to the position of the fault.
     pub path: Path,
-    /// The reason.
+    /// The reason for which the value at that position is not the expected one.
     pub why: FieldFaultKind,
 }

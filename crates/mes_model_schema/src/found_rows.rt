@@ -1,4 +1,4 @@
-//! The members of an object that a message has rows for, found in one pass over the object.
+//! The members of an object that the table of a message names, found in one pass over the object.
 
 ghost use Rattle.std.specs.Prelude.{◌≡◌, true, ℕ, ◌<◌, ◌≤◌, [], length, map, bytes_eq, slice_index_or};
 ghost use Rattle.std.specs.Array.{AllOfLen};
@@ -16,18 +16,18 @@ use arrayvec::ArrayVec;
 use mes_json::Element;
 use std::alloc::Global;
 
-/// What an object has under one name.
+/// The members of an object that have one name.
 #[derive(Drop)]
 pub enum Found<'a> {
     /// No member has the name.
     Nothing,
-    /// One member has the name; this is its value.
+    /// One member has the name, with this value.
     One(Element<'a>),
     /// Two or more members have the name.
     More,
 }
 
-/// Nothing, as before the first member.
+/// The default is `Nothing`: no member has been found yet.
 impl<'a> Default for Found<'a> {
     ghost use Rattle.mes_model_schema.specs.declared.found_rows.Found.TheVariants.{Nothing};
 
@@ -40,7 +40,7 @@ impl<'a> Default for Found<'a> {
 }
 
 impl<'a> Found<'a> {
-    /// Records one more member of the name.
+    /// Records one more member of this entry's name.
     #[inline(always)]
     fn note(&mut self, value: &Element<'a>)
         ensures { self.new ≡ noted value.now self.old }
@@ -53,8 +53,8 @@ impl<'a> Found<'a> {
 }
 
 /// Finds the members of an object that have these distinct names, in one pass. `found` has an entry
-/// for each name, with nothing found. It is a parameter because a result of some 500 bytes would be
-/// moved. Returns `WrongKind` if the element is not an object.
+/// for each name, `Nothing` at the start. It is a parameter, so that some 500 bytes are not moved
+/// as a result. Returns `WrongKind` if the element is not an object.
 #[inline(always)]
 pub fn find_rows<'a, const N: usize>(
     alloc: Global,
@@ -79,7 +79,7 @@ pub fn find_rows<'a, const N: usize>(
     Ok(())
 }
 
-/// Returns N entries, each with nothing found.
+/// Returns N entries, each of them `Nothing`.
 #[inline(always)]
 pub fn nothing_found<'a, const N: usize>() -> ArrayVec<Found<'a>, N>
     ensures none { (i : ℕ) → slice_index_or result.items i Nothing ≡ Nothing }
@@ -96,7 +96,7 @@ fn defaults<T: Default, const N: usize>() -> ArrayVec<T, N>
     ArrayVec::from_array_in((), Default::default())
 }
 
-/// Records a member under the name that it has, if that is one of these.
+/// Records a member in the entry of its name, if `names` has that name.
 #[inline(always)]
 fn note_member<'a, const N: usize>(
     found: &mut ArrayVec<Found<'a>, N>,

@@ -1,4 +1,4 @@
-//! A JSON object that is retained whole, for the members that no table describes.
+//! A JSON object that is retained with all its members, for messages without a table of members.
 ghost use Rattle.std.specs.Prelude.{◌≡◌, None, Ok, IfOk, IfErr};
 ghost use Rattle.mes_json.specs.Tree.{Tree, Members};
 ghost use Rattle.mes_json.specs.Tree.Tree.{object};
@@ -16,7 +16,7 @@ use mes_json::{Element, Json, NoMemory, write_text};
 use std::alloc::Global;
 use std::marker::Model;
 
-/// A JSON object that is retained whole, whatever its members. In contracts it is its members.
+/// A JSON object that is retained with all its members. In contracts its value is the members.
 #[derive(Debug, Drop)]
 pub struct Kept {
     json: Json,

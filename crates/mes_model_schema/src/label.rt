@@ -24,9 +24,9 @@ use std::marker::Model;
 /// A key with an optional value (`Label` in mesos.proto).
 #[derive(Debug, Drop)]
 pub struct Label {
-    /// The key.
+    /// The key of the label.
     pub key: Text,
-    /// The value, if there is one.
+    /// The value of the label, if it has one.
     pub value: Option<Text>,
 }
 
@@ -97,7 +97,7 @@ impl Part for Label {
     }
 }
 
-/// Labels in order (`Labels` in mesos.proto). In contracts they are the list of labels.
+/// Labels in order (`Labels` in mesos.proto). In contracts their value is the list of labels.
 #[derive(Debug, Drop)]
 pub struct Labels {
     labels: List<Label>,
@@ -127,7 +127,7 @@ impl Labels {
         self.labels.as_slice()
     }
 
-    /// Returns the labels in the memory that held them.
+    /// Returns the list of the labels, without a copy.
     pub fn into_list(self) -> List<Label>
         ensures { result ≡ self }
     {
@@ -187,22 +187,22 @@ impl Part for Labels {
     }
 }
 
-/// Builds the JSON object of a list of labels.
+/// Builds the JSON object of a list of labels, with the array as the member `labels`.
 #[tactic(auto, using(crate::specs::Labels::labels_back), unfolding(crate::specs::Labels::labels))]
 fn labels_tree(alloc: Global, list: &List<Label>) -> Result<Json, NoMemory>
     ensures tree { IfOk result (λ t. view t ≡ labels.tree list.now) }
-    // On success: it is read back.
+    // On success: the labels are read back from the object.
     ensures back { OnOk result (Returns labels list.now) }
 {
     message_tree(alloc, &LABELS_NAMES, &pairs!(list))
 }
 
-/// Appends the text of that object, and returns its nesting depth.
+/// Appends the text of the JSON object of a list of labels, and returns its nesting depth.
 #[tactic(auto, using(crate::specs::Labels::labels_back), unfolding(crate::specs::Labels::labels))]
 fn labels_text(alloc: Global, list: &List<Label>, out: &mut Vec<u8>) -> Result<u64, NoMemory>
     ensures text { IfOk result (λ deep. Appends out.old.items (labels.tree list.now) out.new.items
         deep) }
-    // On success: it is read back.
+    // On success: the labels are read back from the object.
     ensures back { OnOk result (Returns labels list.now) }
 {
     message_text(alloc, &LABELS_NAMES, &pairs!(list), out)

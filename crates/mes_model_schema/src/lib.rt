@@ -1,11 +1,11 @@
 #![tactic(auto)]
-//! Reads JSON values as typed messages, and writes and copies them, by tables of rows.
+//! Reads JSON values as typed messages, and writes and copies them, by tables of members.
 //!
-//! A message is an object, and a row describes one of its members: the name, the type, and whether
-//! it is required. A type that implements [`Part`] is read from a tree or a tape. Otherwise reading
-//! returns the first fault: the path of a value and the reason ([`FieldFault`]).
+//! A message is a JSON object. Each row of its table describes one member: the name, the type, and
+//! whether the member is required. A type that implements [`Part`] is read from a JSON tree or a
+//! token tape. Reading returns the value or the first fault, a path and a reason ([`FieldFault`]).
 //!
-//! Each tree has exactly one value or one first fault, and what was written is read back.
+//! Each tree has exactly one value or one first fault, and each written value is read back.
 //! [`one_answer`], [`returned`] and the module [`first_fault`] state these laws.
 //!
 //! ```ignore

@@ -1,9 +1,9 @@
-//! A list of values.
+//! An owned list of values, in JSON an array.
 ghost use Rattle.std.specs.Prelude.{◌≡◌, [], IsTrue, ◌↔◌, length};
 
 use std::marker::Model;
 
-/// An owned list of values. In contracts it is the list of them.
+/// An owned list of values. In contracts its value is the list of those values.
 #[derive(Debug, Drop)]
 pub struct List<T> {
     values: Vec<T>,
@@ -32,7 +32,7 @@ impl<T> List<T> {
         self.values.as_slice()
     }
 
-    /// Returns the values in the vector that held them.
+    /// Returns the vector with the values, without a copy.
     pub fn into_vec(self) -> Vec<T>
         ensures { result.items ≡ self }
     {

@@ -1,5 +1,5 @@
-//! Messages read and written by the table of their rows. `row_list` reads the rows, `row_refs`
-//! writes them.
+//! Messages read and written by a table of their members. `row_list` reads the members that the
+//! rows of the table describe, `row_ref_list` writes them.
 
 ghost use Rattle.std.specs.Prelude.{◌≡◌, true, ◌+◌, ◌≤◌, length, map, IfOk, OnOk};
 ghost use Rattle.mes_json.specs.Tree.{Tree};
@@ -24,18 +24,18 @@ use crate::write_row::whole_object;
 use mes_json::{Element, Json, NoMemory};
 use std::alloc::Global;
 
-/// A value made of the values of its rows.
+/// A message that is made from `V`, the values of its members as nested pairs.
 pub trait ConstructFrom<V>: Drop {
-    // The value that these make.
+    // The message made from these values.
     ghost to: { V → Self };
 
-    /// Makes the value of these. Does not allocate.
+    /// Makes the message from the values of its members. Does not allocate.
     fn made_of(values: V) -> Self
         ensures { result ≡ to values };
 }
 
-/// Reads the message at `element`, whose path is `path`, by the rows `R` with these names, or
-/// returns the first fault.
+/// Reads the message at `element`, whose path is `path`, by the table with the rows `R` and these
+/// member names, or returns the first fault.
 pub fn read_message<R: RowList, M: ConstructFrom<R::Values>, const N: usize>(
     alloc: Global,
     element: &Element<'_>,
@@ -48,7 +48,8 @@ pub fn read_message<R: RowList, M: ConstructFrom<R::Values>, const N: usize>(
     requires rows { R.COUNT ≡ length names.now }
     requires names { are_names (map (λ n. n.now) names.now) ≡ true }
     requires fits { R.fits (map (λ n. n.now) names.now) 0 ≡ true }
-    // The value that the table reads from this tree, or its first fault, or out of memory.
+    // The result is the value that the table reads from the tree, the tree's first fault, or
+    // `NoMemory`.
     ensures { (t : Tree) → BeginsWith element.now t
         → Gives (message_of (R.table (map (λ n. n.now) names.now) 0) M.to path.now t) result }
 {
@@ -58,14 +59,14 @@ pub fn read_message<R: RowList, M: ConstructFrom<R::Values>, const N: usize>(
     Ok(M::made_of(values))
 }
 
-/// Builds the JSON object of a message from the values of its rows.
+/// Builds the JSON object of a message from the values of its members.
 pub fn message_tree<R: RowRefList>(
     alloc: Global,
     names: &[&str],
     rows: &R,
 ) -> Result<Json, NoMemory>
     requires { R.COUNT ≡ length names.now }
-    // On success: the object of the members that the table writes.
+    // On success: the result is the object of the members that the table writes.
     ensures tree { IfOk result (λ t. view t
         ≡ object (members_of ((R.table (map (λ n. n.now) names.now) 0).members
         (R.values rows.now)))) }
@@ -76,7 +77,7 @@ pub fn message_tree<R: RowRefList>(
     Ok(whole_object(members))
 }
 
-/// Appends the text of a message from the values of its rows, and returns its nesting depth.
+/// Appends the text of a message from the values of its members, and returns its nesting depth.
 pub fn message_text<R: RowRefList>(
     alloc: Global,
     names: &[&str],
@@ -84,7 +85,7 @@ pub fn message_text<R: RowRefList>(
     out: &mut Vec<u8>,
 ) -> Result<u64, NoMemory>
     requires { R.COUNT ≡ length names.now }
-    // On success: the canonical text of that object is appended.
+    // On success: the canonical text of the object that `message_tree` builds is appended.
     ensures text { IfOk result (λ deep. Appends out.old.items
         (object (members_of ((R.table (map (λ n. n.now) names.now) 0).members (R.values rows.now))))
         out.new.items deep) }
@@ -95,7 +96,7 @@ pub fn message_text<R: RowRefList>(
     close_object(deepest, start, out)
 }
 
-/// Reads a typed value whose rows are the whole message, or returns the first fault.
+/// Reads a message that is a single typed value, or returns the first fault.
 #[inline(always)]
 pub fn read_typed<C: Choice, const N: usize>(
     alloc: Global,
@@ -116,7 +117,7 @@ pub fn read_typed<C: Choice, const N: usize>(
     C::read_choice(alloc, found.as_slice(), path)
 }
 
-/// Builds the JSON object of a typed value whose rows are the whole message.
+/// Builds the JSON object of a message that is a single typed value.
 pub fn typed_tree<C: Choice>(alloc: Global, value: &C) -> Result<Json, NoMemory>
     ensures tree { IfOk result (λ t. view t ≡ (message C.table).tree value.now) }
     ensures back { OnOk result (C.table.Back value.now) }
@@ -126,7 +127,7 @@ pub fn typed_tree<C: Choice>(alloc: Global, value: &C) -> Result<Json, NoMemory>
     Ok(whole_object(members))
 }
 
-/// Appends the text of such a value, and returns its nesting depth.
+/// Appends the text of a message that is a single typed value, and returns its nesting depth.
 pub fn typed_text<C: Choice>(alloc: Global, value: &C, out: &mut Vec<u8>) -> Result<u64, NoMemory>
     ensures text { IfOk result (λ deep. Appends out.old.items ((message C.table).tree value.now)
         out.new.items deep) }

@@ -1,5 +1,5 @@
-//! Numbers as parts of messages: `u64`, `i32`, and decimals of 3 or 6 places, rounded to the
-//! nearest unit.
+//! Numbers as parts of messages: `u64`, `i32`, and decimal numbers with 3 or 6 places, rounded to
+//! the nearest thousandth or millionth.
 
 ghost use Rattle.std.specs.Prelude.{◌≡◌, ◌≤◌, IfOk, OnOk};
 ghost use Rattle.mes_fixed.specs.Number.{IsNumber};
@@ -211,7 +211,7 @@ fn fixed_tree<const P: u32>(alloc: Global, value: Fixed<P>) -> Result<Json, NoMe
     number_tree(alloc, text.as_str())
 }
 
-/// Builds the JSON number of a text.
+/// Builds the JSON number with this text.
 fn number_tree(alloc: Global, text: &str) -> Result<Json, NoMemory>
     requires { IsNumber text.now }
     ensures { IfOk result (λ t. view t ≡ number text.now) }

@@ -19,7 +19,7 @@ use std::alloc::{AllocError, AllocFailed, Global};
 /// The reason for which a value was not read.
 #[derive(Debug, Drop)]
 pub enum PartFault {
-    /// The tree is not such a value: the path of the first fault and its reason.
+    /// The JSON value is not a value of the type. The fault has the path and the reason.
     Field(BoxedFault),
     /// An allocation failed.
     NoMemory,
@@ -55,7 +55,7 @@ pub trait Part: Drop {
 
     ghost STEPS: { ℕ };
 
-    /// The most steps from a value of this type to a fault in it.
+    /// The most steps from a value of this type to a fault in the value.
     const STEPS: u32;
 
     /// Reads the value at `element`, whose path is `path`, or returns the first fault.
@@ -67,8 +67,8 @@ pub trait Part: Drop {
         requires { length path.now + STEPS ≤ MAX_PATH_STEPS }
         ensures { (t : Tree) → BeginsWith element.now t → Gives (kind.read path.now t) result };
 
-    /// Reads the value of a tree whose path is `path`, or returns the first fault. Builds a tape
-    /// first.
+    /// Reads the value from a JSON tree whose path is `path`, or returns the first fault. Builds a
+    /// token tape of the tree first.
     final fn read(alloc: Global, json: &Json, path: &Path) -> Result<Self, PartFault>
         requires { length path.now + STEPS ≤ MAX_PATH_STEPS }
         ensures { Gives (kind.read path.now (view json.now)) result }
@@ -77,14 +77,14 @@ pub trait Part: Drop {
         Self::read_from(alloc, &tape.root(), &PathBuilder::along(path))
     }
 
-    /// Builds the tree that the value is written as.
+    /// Builds the JSON tree that the value is written as.
     fn tree(&self, alloc: Global) -> Result<Json, NoMemory>
         ensures tree { IfOk result (λ t. view t ≡ kind.tree self.now) }
         // On success: the value is read back from the tree.
         ensures back { OnOk result (Returns kind self.now) };
 
-    /// Appends the canonical text of that tree and returns its nesting depth. On `NoMemory` the
-    /// content of `out` is unspecified.
+    /// Appends the canonical text of the value's tree and returns its nesting depth. On `NoMemory`
+    /// the content of `out` is unspecified.
     fn write_json(&self, alloc: Global, out: &mut Vec<u8>) -> Result<u64, NoMemory>
         ensures text { IfOk result (λ deep. Appends out.old.items (kind.tree self.now) out.new.items
             deep) }

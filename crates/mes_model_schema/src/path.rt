@@ -13,13 +13,13 @@ use std::marker::Model;
 /// One step into a JSON value.
 #[derive(Clone, Copy, Debug)]
 pub enum Step {
-    /// To the member of this name, of 1 to `MAX_PATH_NAME` bytes.
+    /// To the member of this name, which has 1 to `MAX_PATH_NAME` bytes.
     Name(&'static str),
     /// To the element at this index, from 0.
     Index(u64),
 }
 
-/// A filler for the unused steps of a path.
+/// The value of the unused steps of a path.
 impl Default for Step {
     ghost use Rattle.mes_model_schema.specs.declared.path.Step.TheVariants.{Index};
 
@@ -33,7 +33,7 @@ impl Default for Step {
 /// A path from the root of a JSON value to a fault, of at most `MAX_PATH_STEPS` steps.
 #[derive(Debug, Drop)]
 pub struct Path {
-    /// The steps in order, followed by fillers.
+    /// The steps in order, followed by unused steps.
     steps: [Step; MAX_PATH_STEPS],
     len: usize,
 }
@@ -105,7 +105,7 @@ impl Path {
     }
 }
 
-/// Appends a step after the first one.
+/// Appends the text of any step but the first of a path.
 fn push_step(text: &mut ArrayString<MAX_PATH_TEXT>, step: Step)
     requires place { IsPlace (place_of step) }
     requires room { array_string_len text.old + MAX_PATH_NAME + 1 ≤ MAX_PATH_TEXT }

@@ -1,4 +1,4 @@
-//! The path to a value while it is read. It becomes a [`Path`] only for a fault.
+//! The path to the value that is being read. It is copied to a [`Path`] only for a fault.
 
 ghost use Rattle.std.specs.Prelude.{◌≡◌, ◌<◌, [], ◌∷◌, ◌++◌, length};
 ghost use Rattle.mes_model_schema.specs.Paths.{IsPlace};
@@ -8,8 +8,8 @@ use crate::limits::MAX_PATH_STEPS;
 use crate::path::{Path, Step};
 use std::marker::Model;
 
-/// The path to a value: the last step, and a borrow of the path before it. Adding a step copies
-/// nothing.
+/// The path to a value: the last step, and a borrow of the path before that step. Adding a step
+/// copies nothing.
 #[cycle(trail)]
 #[derive(Drop)]
 pub struct PathBuilder<'a> {
@@ -19,11 +19,11 @@ pub struct PathBuilder<'a> {
 #[cycle(trail)]
 #[derive(Drop)]
 enum Link<'a> {
-    /// No step.
+    /// The path without steps.
     Start,
-    /// The steps of a path.
+    /// The steps of an existing [`Path`].
     Along(&'a Path),
-    /// One more step.
+    /// The borrowed path, and one more step.
     Below(&'a PathBuilder<'a>, Step),
 }
 

@@ -1,4 +1,4 @@
-//! Strings, numbers and booleans at a position of a tape, or the fault of any other value.
+//! Strings, numbers and booleans at a position of a token tape. Any other value is `WrongKind`.
 
 ghost use Rattle.std.specs.Prelude.{◌≡◌};
 ghost use Rattle.mes_json.specs.Tree.{Tree};

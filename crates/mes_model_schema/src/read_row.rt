@@ -1,5 +1,5 @@
-//! Reading one row: from the member that `found` has under its name. `write_row` and `append` write
-//! it.
+//! Reads the member that one row describes, given what `found_rows` found under its name.
+//! `write_row` and `append` write such a member.
 
 ghost use Rattle.std.specs.Prelude.{◌≡◌, ℕ, List as list, ◌+◌, ◌≤◌, ◌<◌, length, None};
 ghost use Rattle.mes_json.specs.Tree.{Tree, Members};
@@ -134,7 +134,7 @@ pub fn type_of<'a>(
     }
 }
 
-/// The most items for which memory is reserved before they are read.
+/// The most items of an array for which memory is reserved before the items are read.
 const INITIAL_CAPACITY: usize = 64;
 
 /// Reads the items of an array in order. Returns `WrongKind` if the value is not an array.
@@ -158,8 +158,7 @@ pub fn read_items<T: Part>(
     Ok(List::new(values))
 }
 
-/// Reads a list in either form: an object whose member of that name is the list, or the list
-/// itself.
+/// Reads a list in either form: an object whose member `name` is the array, or the array itself.
 pub fn read_either_list<T: Part>(
     alloc: Global,
     element: &Element<'_>,
@@ -179,13 +178,13 @@ pub fn read_either_list<T: Part>(
     repeated(alloc, &found[0], name, path)
 }
 
-/// The value to read under a name.
+/// The value of the only member of a name, if there is one.
 enum Unique<'a> {
     /// No value: no member has the name, or its value is `null`.
     Absent,
     /// The value of the only member of the name, not `null`.
     Present(Element<'a>),
-    /// No value, because two or more members have the name.
+    /// Two or more members have the name, which is a fault.
     Repeated,
 }
 
@@ -210,7 +209,8 @@ pub fn left_out(
     }
 }
 
-/// Returns the only value that was found, if it is not `null`.
+/// Returns the value of the only member found, `Absent` if no member was found or its value is
+/// `null`, or `Repeated` if two or more members were found.
 #[tactic(auto, using(crate::proofs::ValueLemmas::single_none, crate::proofs::ValueLemmas::single_null, crate::proofs::ValueLemmas::single_one, crate::proofs::ValueLemmas::single_twice))]
 fn unique_value<'a>(found: &Found<'a>) -> Unique<'a>
     ensures { (at : list Place) (ts : list Tree) → IsFound found.now ts

@@ -1,4 +1,4 @@
-//! Faults made for values that are not read, or `NoMemory`. They are out of line because they are
+//! Makes the `PartFault` of an invalid value. These functions are not inlined, because faults are
 //! rare.
 
 ghost use Rattle.std.specs.Prelude.{◌<◌, length};
@@ -15,8 +15,8 @@ use crate::path::Step;
 use crate::path_builder::PathBuilder;
 use std::alloc::Global;
 
-/// Makes the fault at this path. Returns `PartFault::NoMemory` if the allocation failed, like those
-/// below.
+/// Makes the fault at this path. Like the functions below, returns `PartFault::NoMemory` if the
+/// allocation failed.
 #[cold]
 #[inline(never)]
 pub fn refusal_at(alloc: Global, path: &PathBuilder<'_>, why: FieldFaultKind) -> PartFault
@@ -51,7 +51,7 @@ pub fn type_refusal(alloc: Global, path: &PathBuilder<'_>, why: FieldFaultKind) 
     row_refusal(alloc, path, "type", why)
 }
 
-/// Allocates the fault, or returns `PartFault::NoMemory`.
+/// Allocates the fault, or returns `PartFault::NoMemory` if the allocation failed.
 fn reported(alloc: Global, fault: FieldFault) -> PartFault
     ensures { Reports fault result }
 {

@@ -1,4 +1,5 @@
-//! The kinds of rows that a message is read by. A row describes the member of one name.
+//! The kinds of rows in the table of a message: required, optional, list and flag. A row describes
+//! the member of one name.
 
 ghost use Rattle.std.specs.Prelude.{ℕ, ◌+◌, ◌≤◌, List as list, length};
 ghost use Rattle.mes_json.specs.Tree.{Members};
@@ -17,18 +18,19 @@ use crate::read_row::{flagged, optional, repeated, required};
 use std::alloc::Global;
 use std::marker::PhantomData;
 
-/// A kind of row: how the member of one name is read.
+/// A kind of row in the table of a message: how the member of one name is read.
 pub trait Row {
     /// The type of the values read by a row of this kind.
     type Value: Drop;
 
-    // The row of this name, as a table.
+    // The table whose only row is the one of this name.
     ghost table: { list ℕ → Table Self.Value };
 
-    // The most steps from the message to a fault in the row.
+    // The most steps from the message to a fault in the member.
     ghost STEPS: { ℕ };
 
-    /// Reads the member that was found under this name, or returns the first fault.
+    /// Reads the value of the member `name`, given what was found under that name, or returns the
+    /// first fault.
     fn read_row(
         alloc: Global,
         found: &Found<'_>,
@@ -41,7 +43,7 @@ pub trait Row {
             → Gives ((table name.now).read path.now ms) result };
 }
 
-/// A required member.
+/// The row of a required member.
 pub struct RequiredRow<T> {
     of: PhantomData<T>,
 }
@@ -63,7 +65,7 @@ impl<T: Part> Row for RequiredRow<T> {
     }
 }
 
-/// An optional member, `None` if it is absent or `null`.
+/// The row of an optional member: its value is `None` if it is absent or `null`.
 pub struct OptionalRow<T> {
     of: PhantomData<T>,
 }
@@ -85,7 +87,7 @@ impl<T: Part> Row for OptionalRow<T> {
     }
 }
 
-/// A list, empty if its member is absent or `null`.
+/// The row of a list, which is empty if its member is absent or `null`.
 pub struct RepeatedRow<T> {
     of: PhantomData<T>,
 }
@@ -107,7 +109,7 @@ impl<T: Part> Row for RepeatedRow<T> {
     }
 }
 
-/// A flag: an object that is present or absent, and whose members are ignored.
+/// The row of a flag: an object that is present or absent, and whose members are ignored.
 pub struct Flag;
 
 impl Row for Flag {

@@ -1,4 +1,4 @@
-//! The rows of a message, read in order.
+//! The rows of the table of a message, whose members are read in order.
 
 ghost use Rattle.std.specs.Prelude.{◌≡◌, Bool, true, ℕ, ◌+◌, ◌≤◌, max, List as list, length, map};
 ghost use Rattle.mes_json.specs.Tree.{Members};
@@ -14,25 +14,25 @@ use crate::path_builder::PathBuilder;
 use crate::row::Row;
 use std::alloc::Global;
 
-/// Rows in order: `()`, or a row and the rows after it.
+/// The rows of a table in order: `()`, or a row and the rows after it.
 pub trait RowList {
-    /// The values of the rows, as nested pairs.
+    /// The values of the members, as nested pairs.
     type Values: Drop;
 
-    // The table of these rows, whose names begin at this index of a list.
+    // The table of these rows, given a list of names and the index of the first row's name.
     ghost table: { list (list ℕ) → ℕ → Table Self.Values };
 
-    // The number of names.
+    // The number of names that the rows use.
     ghost COUNT: { ℕ };
 
-    // The most steps from the message to a fault in the rows.
+    // The most steps from the message to a fault in one of the members.
     ghost STEPS: { ℕ };
 
-    // The names of each typed value are where its rows expect them.
+    // From this index on, the list has the names of each typed value where its rows expect them.
     ghost fits: { list (list ℕ) → ℕ → Bool };
 
-    /// Reads the rows whose names begin at index `first`, from what was found under each name, or
-    /// returns the first fault.
+    /// Reads the members under the names from index `first` on, given what was found under each
+    /// name, or returns the first fault.
     fn read_rows(
         alloc: Global,
         found: &[Found<'_>],
@@ -45,7 +45,8 @@ pub trait RowList {
         requires all { length names.now ≤ length found.now }
         requires names { are_short (map (λ n. n.now) names.now) ≡ true }
         requires fits { fits (map (λ n. n.now) names.now) first ≡ true }
-        // The values that the table reads from these members, or its first fault, or out of memory.
+        // The result is the values that the table reads from the members `ms`, the first fault, or
+        // `NoMemory`.
         ensures { (ms : Members) → FindsAll (map (λ n. n.now) names.now) ms found.now
             → Gives ((table (map (λ n. n.now) names.now) first).read path.now ms) result };
 }

@@ -1,4 +1,4 @@
-//! The borrowed value of one row, which is written under a name or copied.
+//! The borrowed value of one member of a message, which is written under a name or copied.
 
 ghost use Rattle.std.specs.Prelude.{◌≡◌, ℕ, ◌++◌, List as list, IfOk, IfErr, OnOk};
 ghost use Rattle.mes_model_schema.specs.Appended.{AppendsMembers};
@@ -15,18 +15,19 @@ use crate::write_row::{
 use mes_json::{Json, NoMemory, Text};
 use std::alloc::Global;
 
-/// The borrowed value of a row.
+/// The borrowed value of the member that a row describes.
 pub trait RowRef {
-    /// The owned value.
+    /// The type of the owned value.
     type Value: Drop;
 
-    // The row of this name, as a table.
+    // The table whose only row is the one of this name.
     ghost table: { list ℕ → Table Self.Value };
 
-    // The value that is borrowed.
+    // The value that a `RowRef` borrows.
     ghost value: { Self → Self.Value };
 
-    /// Appends the member of the value, if it has one. On `NoMemory` the members are unchanged.
+    /// Appends the member `name` with the value to `members`. Appends nothing for `None`, an empty
+    /// list or an unset flag. On `NoMemory` the list `members` is unchanged.
     fn push_row_tree(
         &self,
         members: &mut Vec<(Text, Json)>,
@@ -39,24 +40,24 @@ pub trait RowRef {
             ≡ pairs_view members.old.items) }
         ensures back { OnOk result ((table name.now).Back (value self.now)) };
 
-    /// Appends the text of that member after a comma and returns the depth of its value. On
-    /// `NoMemory` the content of `out` is unspecified.
+    /// Appends the text of the member `name` after a comma, and returns the nesting depth of the
+    /// value. On `NoMemory` the content of `out` is unspecified.
     fn write_row_text(&self, alloc: Global, name: &str, out: &mut Vec<u8>) -> Result<u64, NoMemory>
         ensures members { IfOk result (λ deep. AppendsMembers out.old.items
             ((table name.now).members (value self.now)) out.new.items deep) }
         ensures back { OnOk result ((table name.now).Back (value self.now)) };
 
-    /// Copies the value.
+    /// Copies the borrowed value.
     fn copy_row(&self, alloc: Global) -> Result<Self::Value, NoMemory>
         ensures { IfOk result (λ v. v ≡ value self.now) };
 
-    /// Shows that, under any name, each value of the row is read back from its tree. Does not
-    /// allocate.
+    /// Shows that, under any name, the value is read back from the tree that it is written as. Does
+    /// not allocate.
     fn row_reads_back(&self)
         ensures { (name : list ℕ) → (table name).Back (value self.now) };
 }
 
-/// The borrowed value of a required row.
+/// The borrowed value of a required member.
 #[derive(Drop)]
 pub struct RequiredRowRef<'a, T>(pub &'a T);
 
@@ -162,7 +163,7 @@ impl<'a, T: Part> RowRef for &'a List<T> {
     }
 }
 
-/// The value of a flag.
+/// A flag is written as the object `{}`, and as no member if it is unset.
 impl RowRef for bool {
     type Value = bool;
 

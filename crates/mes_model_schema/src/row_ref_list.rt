@@ -1,4 +1,4 @@
-//! The borrowed values of all rows of a message, which are written in order or copied.
+//! The borrowed values of all members of a message, which are written in order or copied.
 
 ghost use Rattle.std.specs.Prelude.{◌≡◌, ℕ, ◌+◌, ◌≤◌, ◌++◌, List as list, length, map, IfOk, IfErr, OnOk};
 ghost use Rattle.mes_model_schema.specs.Appended.{AppendsMembers};
@@ -11,22 +11,22 @@ use crate::row_ref::RowRef;
 use mes_json::{Json, NoMemory, Text};
 use std::alloc::Global;
 
-/// The borrowed values of rows in order: `()`, or the value of a row and those after it.
+/// Borrowed values in the order of the rows: `()`, or the value of a row and the values after it.
 pub trait RowRefList {
-    /// The owned values, as nested pairs.
+    /// The type of the owned values, as nested pairs.
     type Values: Drop;
 
-    // The table of these rows, whose names begin at this index of a list.
+    // The table of these rows, given a list of names and the index of the first row's name.
     ghost table: { list (list ℕ) → ℕ → Table Self.Values };
 
-    // The number of names.
+    // The number of names that the rows use.
     ghost COUNT: { ℕ };
 
-    // The values that are borrowed.
+    // The values that a `RowRefList` borrows.
     ghost values: { Self → Self.Values };
 
-    /// Appends the members of the values, under the names from index `first` on. On `NoMemory` only
-    /// some may be appended.
+    /// Appends the members with these values, under the names from index `first` on. On `NoMemory`
+    /// some of them may have been appended.
     fn push_rows_tree(
         &self,
         members: &mut Vec<(Text, Json)>,
@@ -44,8 +44,8 @@ pub trait RowRefList {
         ensures back { OnOk result ((table (map (λ n. n.now) names.now) first).Back
             (values self.now)) };
 
-    /// Appends the texts of those members, each after a comma, and returns the greatest depth of
-    /// their values. On `NoMemory` the content of `out` is unspecified.
+    /// Appends the texts of the members with these values, each after a comma. Returns the greatest
+    /// nesting depth of the values. On `NoMemory` the content of `out` is unspecified.
     fn write_rows_text(
         &self,
         alloc: Global,
@@ -61,12 +61,11 @@ pub trait RowRefList {
         ensures back { OnOk result ((table (map (λ n. n.now) names.now) first).Back
             (values self.now)) };
 
-    /// Copies the values.
+    /// Copies the borrowed values.
     fn copy_rows(&self, alloc: Global) -> Result<Self::Values, NoMemory>
         ensures { IfOk result (λ v. v ≡ values self.now) };
 
-    /// Shows that, under any names, each value of the rows is read back from its tree. Does not
-    /// allocate.
+    /// Shows that, under any names, each value is read back from its tree. Does not allocate.
     fn rows_read_back(&self)
         ensures { (names : list (list ℕ)) (first : ℕ)
             → (table names first).Back (values self.now) };

@@ -1,4 +1,5 @@
-//! Lists of rows as nested pairs, and macros to write them: the rows a, b are `(a, (b, ()))`.
+//! Rows of a table of members as nested pairs, and macros to write such pairs: the rows a and b are
+//! `(a, (b, ()))`.
 
 /// Builds the nested pairs `(a, (b, (.., ())))` from `pairs!(a, b, ..)`.
 #[macro_export]
@@ -24,61 +25,61 @@ macro_rules! names {
     ($first:ident $(, $rest:ident)* $(,)?) => { ($first, $crate::names!($($rest),*)) };
 }
 
-/// One row.
+/// The rows of a table with one member.
 pub type Rows1<A> = (A, ());
 
-/// Two rows.
+/// The rows of a table with two members.
 pub type Rows2<A, B> = (A, Rows1<B>);
 
-/// Three rows.
+/// The rows of a table with three members.
 pub type Rows3<A, B, C> = (A, Rows2<B, C>);
 
-/// Four rows.
+/// The rows of a table with four members.
 pub type Rows4<A, B, C, D> = (A, Rows3<B, C, D>);
 
-/// Five rows.
+/// The rows of a table with five members.
 pub type Rows5<A, B, C, D, E> = (A, Rows4<B, C, D, E>);
 
-/// Six rows.
+/// The rows of a table with six members.
 pub type Rows6<A, B, C, D, E, F> = (A, Rows5<B, C, D, E, F>);
 
-/// Seven rows.
+/// The rows of a table with seven members.
 pub type Rows7<A, B, C, D, E, F, G> = (A, Rows6<B, C, D, E, F, G>);
 
-/// Eight rows.
+/// The rows of a table with eight members.
 pub type Rows8<A, B, C, D, E, F, G, H> = (A, Rows7<B, C, D, E, F, G, H>);
 
-/// Nine rows.
+/// The rows of a table with nine members.
 pub type Rows9<A, B, C, D, E, F, G, H, I> = (A, Rows8<B, C, D, E, F, G, H, I>);
 
-/// Ten rows.
+/// The rows of a table with ten members.
 pub type Rows10<A, B, C, D, E, F, G, H, I, J> = (A, Rows9<B, C, D, E, F, G, H, I, J>);
 
-/// Eleven rows.
+/// The rows of a table with eleven members.
 pub type Rows11<A, B, C, D, E, F, G, H, I, J, K> = (A, Rows10<B, C, D, E, F, G, H, I, J, K>);
 
-/// Twelve rows.
+/// The rows of a table with twelve members.
 pub type Rows12<A, B, C, D, E, F, G, H, I, J, K, L> = (A, Rows11<B, C, D, E, F, G, H, I, J, K, L>);
 
-/// Thirteen rows.
+/// The rows of a table with thirteen members.
 pub type Rows13<A, B, C, D, E, F, G, H, I, J, K, L, M> = (
     A,
     Rows12<B, C, D, E, F, G, H, I, J, K, L, M>,
 );
 
-/// Fourteen rows.
+/// The rows of a table with fourteen members.
 pub type Rows14<A, B, C, D, E, F, G, H, I, J, K, L, M, N> = (
     A,
     Rows13<B, C, D, E, F, G, H, I, J, K, L, M, N>,
 );
 
-/// Fifteen rows.
+/// The rows of a table with fifteen members.
 pub type Rows15<A, B, C, D, E, F, G, H, I, J, K, L, M, N, O> = (
     A,
     Rows14<B, C, D, E, F, G, H, I, J, K, L, M, N, O>,
 );
 
-/// Sixteen rows.
+/// The rows of a table with sixteen members.
 pub type Rows16<A, B, C, D, E, F, G, H, I, J, K, L, M, N, O, P> = (
     A,
     Rows15<B, C, D, E, F, G, H, I, J, K, L, M, N, O, P>,

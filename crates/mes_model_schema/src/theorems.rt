@@ -1,4 +1,4 @@
-//! Laws of every [`Part`], as contracts of generic functions; most of these have no code.
+//! Laws of every [`Part`], stated as contracts of generic functions, most of which are empty.
 
 ghost use Rattle.std.specs.Prelude.{◌≡◌, ℕ, ◌+◌, ◌≤◌, List as list, Ok, length, IfOk, IfErr};
 ghost use Rattle.mes_json.specs.Tree.{Tree};
@@ -24,8 +24,8 @@ pub fn one_answer<T: Part>()
     ensures { (at : list Place) (t : Tree) → Settled T.kind at t }
 {}
 
-/// A fault is at most `STEPS` steps below its tree, and some tree other than `null` has one that
-/// deep.
+/// A fault of a tree has a path of at most `STEPS` steps from that tree. Some tree other than
+/// `null` has a fault of exactly `STEPS` steps.
 pub fn most_steps<T: Part>()
     ensures within { Within T.kind T.STEPS }
     ensures reached { Reaches T.kind T.STEPS }
@@ -37,14 +37,14 @@ pub fn returned<T: Part>()
         → T.kind.read at (T.kind.tree value) ≡ Ok value }
 {}
 
-/// Law: the value is read back from the tree that it is written as. Does not allocate.
+/// Shows that the value is read back from the tree that it is written as. Does not allocate.
 pub fn value_returned<T: Part>(value: &T)
     ensures { Returns T.kind value.now }
 {
     value.reads_back();
 }
 
-/// Any tree at any path is one list of values of the type, or has one first fault.
+/// Any tree, at any path, has exactly one list of values of the type or exactly one first fault.
 pub fn list_reading_is_unique<T: Part>()
     ensures { (at : list Place) (t : Tree) → Settled (list_of T.kind) at t }
 {}
@@ -56,14 +56,15 @@ pub fn list_returned<T: Part>()
         → (list_of T.kind).read at ((list_of T.kind).tree values) ≡ Ok values }
 {}
 
-/// Any tree, at any path, has exactly one list in either form or exactly one first fault.
+/// Any tree, at any path, has exactly one list, as an array or as an object with the array, or
+/// exactly one first fault.
 pub fn either_list_reading_is_unique<T: Part>()
     ensures { (n : list ℕ) (at : list Place) (t : Tree) → Settled (either_list n T.kind) at t }
 {}
 
 /// A list is read back from the object that it is written as, if each of its values is read back.
 pub fn either_list_returned<T: Part>()
-    // If each value is read back from its own tree, the list is read back from that object.
+    // If each value is read back from its own tree, the list is read back from the object.
     ensures { (n : list ℕ) (at : list Place) (values : list T) → ReturnsEach T.kind values
         → (either_list n T.kind).read at ((either_list n T.kind).tree values) ≡ Ok values }
 {}
@@ -78,7 +79,7 @@ pub fn written_again<T: Part>(alloc: Global, value: &T) -> Result<T, PartFault>
     T::read(alloc, &tree, &Path::new())
 }
 
-/// Reads the value of a tree exactly, or returns the first fault.
+/// Reads the one value of a JSON tree, or returns the first fault.
 pub fn read_part<T: Part>(alloc: Global, json: &Json, path: &Path) -> Result<T, PartFault>
     requires { length path.now + T.STEPS ≤ MAX_PATH_STEPS }
     ensures found { IfOk result (λ v. T.kind.Reads (view json.now) v) }
@@ -88,7 +89,7 @@ pub fn read_part<T: Part>(alloc: Global, json: &Json, path: &Path) -> Result<T, 
     T::read(alloc, json, path)
 }
 
-/// Reads the items of an array in order, or returns the first fault. Builds a tape first.
+/// Reads the items of an array in order, or returns the first fault. Builds a token tape first.
 pub fn read_list<T: Part>(alloc: Global, json: &Json, path: &Path) -> Result<List<T>, PartFault>
     requires { length path.now + 1 + T.STEPS ≤ MAX_PATH_STEPS }
     ensures { Gives ((list_of T.kind).read path.now (view json.now)) result }
@@ -97,8 +98,8 @@ pub fn read_list<T: Part>(alloc: Global, json: &Json, path: &Path) -> Result<Lis
     read_items(alloc, &tape.root(), &PathBuilder::along(path))
 }
 
-/// Paths have at most 16 steps, names of 31 bytes and texts of 512 bytes; messages have at most 64
-/// rows.
+/// A path has at most 16 steps, names of at most 31 bytes and a text of at most 512 bytes. The
+/// table of a message has at most 64 rows.
 pub fn part_limits()
     ensures { (MAX_PATH_STEPS ≡ 16) × (MAX_PATH_NAME ≡ 31) × (MAX_PATH_TEXT ≡ 512)
         × (MAX_ROWS ≡ 64) }

@@ -1,4 +1,4 @@
-//! A typed value among the rows of a message, followed by other rows.
+//! The rows of a typed value (`choice`) in the table of a message, followed by other rows.
 
 ghost use Rattle.std.specs.Prelude.{◌+◌, ◌&&◌, max};
 ghost use Rattle.mes_model_schema.specs.RowNames.{stand_at};
@@ -15,7 +15,7 @@ use mes_json::{Json, NoMemory, Text};
 use std::alloc::Global;
 use std::marker::PhantomData;
 
-/// The rows of a typed value, and the rows after them.
+/// The rows of the typed value `C`, followed by the rows `T`.
 pub struct Typed<C, T> {
     of: PhantomData<(C, T)>,
 }
@@ -44,7 +44,7 @@ impl<C: Choice, T: RowList> RowList for Typed<C, T> {
     }
 }
 
-/// A borrowed typed value, and the values of the rows after it.
+/// A borrowed typed value, followed by the borrowed values of the rows after it.
 #[derive(Drop)]
 pub struct TypedRef<'a, C, T>(pub &'a C, pub T);
 

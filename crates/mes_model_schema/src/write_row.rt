@@ -1,5 +1,5 @@
-//! Building the JSON tree of each row; `append` writes the text instead. On `NoMemory` the members
-//! given are unchanged.
+//! Builds the JSON trees of the members of a message; `append` writes their texts instead. On
+//! `NoMemory` the list `members` is unchanged.
 
 ghost use Rattle.std.specs.Prelude.{◌≡◌, [], ◌∷◌, ◌++◌, IfOk, IfErr, OnOk};
 ghost use Rattle.mes_json.specs.Tree.Tree.{object, string};
@@ -70,7 +70,7 @@ pub fn push_repeated_tree<T: Part>(
     push_member(members, alloc, name, tree)
 }
 
-/// Appends the member of a flag, `{}`, and nothing if the flag is unset.
+/// Appends the member of a flag with the value `{}`, and nothing if the flag is unset.
 pub fn push_flag_tree(
     members: &mut Vec<(Text, Json)>,
     alloc: Global,
@@ -104,7 +104,7 @@ pub fn push_type_tree(
     push_member(members, alloc, "type", Json::Text(kind))
 }
 
-/// Builds the object of these members. Does not allocate.
+/// Builds the JSON object of a list of members. Does not allocate.
 #[tactic(auto, using(crate::proofs::TreeLemmas::view_map))]
 pub fn whole_object(members: Vec<(Text, Json)>) -> Json
     ensures { view result ≡ object (members_of (pairs_view members.items)) }
@@ -137,7 +137,7 @@ pub fn copy_list<T: Part>(alloc: Global, values: &List<T>) -> Result<List<T>, No
     Ok(List::new(copies))
 }
 
-/// Copies the value, if there is one.
+/// Copies the value in an `Option`, if there is one.
 pub fn copy_some<T: Part>(alloc: Global, value: &Option<T>) -> Result<Option<T>, NoMemory>
     ensures { IfOk result (λ copy. copy ≡ value.now) }
 {

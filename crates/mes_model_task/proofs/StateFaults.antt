@@ -1,4 +1,4 @@
--- The first fault of the name of a state.
+-- Lemmas: the first fault of a state is another JSON type, or a string that is no name of a state.
 use Rattle.std.proofs.Common.{◌≡◌, ◌⊎◌, inl, inr, ◌↔◌, ℕ, List, Option, Some, None, refl, sym, ◌∙◌, ap}
 use Rattle.std.specs.Prelude.{Ok, Err}
 use Rattle.mes_model_schema.specs.Tree.{Tree}

@@ -1,4 +1,4 @@
--- The state of a tree, by the text at its place.
+-- Lemmas: the state or the fault of a tree, from the text of its string.
 use Rattle.std.proofs.Common.{◌≡◌, ℕ, List, refl}
 use Rattle.std.specs.Prelude.{Ok}
 use Rattle.mes_model_schema.specs.Tree.{Tree}

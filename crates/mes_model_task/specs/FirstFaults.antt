@@ -1,4 +1,4 @@
--- The first fault of a status, row by row in the order of its table.
+-- The first fault of a status, member by member in the order of its table.
 use Rattle.std.specs.Prelude.{codes}
 use Rattle.mes_model_schema.specs.Binary.{base64_bytes}
 use Rattle.mes_model_schema.specs.Leaves.{texts, booleans}
@@ -9,7 +9,7 @@ use Rattle.mes_model_resource.specs.Ids.{id}
 use Rattle.mes_model_task.specs.TaskStates.{states}
 use Rattle.mes_model_task.specs.Times.{time_info}
 
--- task_id, state: required; others: optional
+-- the first fault of the members; task_id, state: required; others: optional
 abbrev pub OfStatus : OfRows
 OfStatus =
     NeedThen (codes "task_id") id (

@@ -4,7 +4,8 @@ use Rattle.mes_model_resource.specs.declared.id.Id.{Id}
 use Rattle.mes_model_task.specs.declared.owed_key.OwedKey.{OwedKey}
 use Rattle.mes_model_task.specs.declared.task_status.TaskStatus.{TaskStatus}
 
--- the key of an update; there is none without an agent, without a uuid, or with an empty uuid
+-- the key of the task, the agent and the uuid of an update; `None` if the update has no agent, no
+-- uuid, or an empty uuid
 abbrev pub key_by : Id → Option Id → Option (List ℕ) → Option OwedKey
 key_by task None uuid = None
 key_by task (Some agent) None = None

@@ -37,12 +37,12 @@ abbrev pub all_states : List TaskState
 all_states =
     Staging ∷ Starting ∷ Running ∷ Killing ∷ Finished ∷ Failed ∷ Killed ∷ Error ∷ Lost ∷ Dropped ∷ Unreachable ∷ Gone ∷ GoneByOperator ∷ Unknown ∷ []
 
--- the first of these states that has the name
+-- the first state in the list that has the name
 abbrev pub among : List ℕ → List TaskState → Option TaskState
 among name [] = None
 among name (state ∷ states) = if bytes_eq (state_name state) name then Some state else among name states
 
--- the state of this name
+-- the state with this name, if there is one
 unfoldable pub state_of : List ℕ → Option TaskState
 state_of name = among name all_states
 
@@ -50,7 +50,7 @@ abbrev pub known_state : List Place → Option TaskState → Result TaskState Fi
 known_state at None = fault at UnknownName
 known_state at (Some state) = Ok state
 
--- a string that is the name of a state
+-- the kind of states, in JSON the string with the name of the state
 unfoldable pub states : Kind TaskState
 states = record {
   Reads = λ t state. t ≡ string (state_name state);
@@ -58,7 +58,7 @@ states = record {
   tree = λ state. string (state_name state);
 }
 
--- ---- their laws
+-- ---- the laws of the names of states, and of the kind of states
 
 pub found_by_name : (state : TaskState) → state_of (state_name state) ≡ Some state
 unfolding state_of
@@ -85,7 +85,7 @@ among_named name (first ∷ rest) state e = by_test (bytes_eq (state_name first)
   by_test true same found later = let is : first ≡ state = cc in ap state_name (sym is) ∙ names_equal (state_name first) name same
   by_test false other found later = later found
 
--- a state that is found has the name
+-- the state that is found for a name has that name
 pub state_named : (name : List ℕ) (state : TaskState) → state_of name ≡ Some state → state_name state ≡ name
 unfolding state_of
 state_named name state e = among_named name all_states state e
@@ -93,7 +93,7 @@ state_named name state e = among_named name all_states state e
 pub state_found : (name : List ℕ) (state : TaskState) → state_name state ≡ name → state_of name ≡ Some state
 state_found name state is = ap state_of (sym is) ∙ found_by_name state
 
--- if no state has the name, none is found
+-- if no state has the name, no state is found
 pub state_none : (name : List ℕ) → ((state : TaskState) → state_name state ≡ name → ⊥) → state_of name ≡ None
 state_none name none = by_answer (state_of name) refl where
   by_answer : (found : Option TaskState) → state_of name ≡ found → found ≡ None

@@ -15,7 +15,7 @@ use Rattle.mes_model_task.specs.TaskStates.{states, lawful_states}
 use Rattle.mes_model_task.specs.Times.{time_info, lawful_time_info}
 use Rattle.mes_model_task.specs.declared.task_status.TaskStatus.{TaskStatus}
 
--- task_id, state: required; others: optional
+-- the members of a status; task_id, state: required; others: optional
 abbrev pub task_status_layout : Layout TaskStatus
 task_status_layout =
     laid_out (

@@ -11,7 +11,7 @@ use Rattle.mes_model_task.specs.declared.command.Command.{Command}
 use Rattle.mes_model_task.specs.declared.task_info.TaskInfo.{TaskInfo}
 use Rattle.mes_model_task.specs.declared.task_ref.TaskRef.{TaskRef}
 
--- value, shell: optional; arguments: a list
+-- the members of a command; value, shell: optional; arguments: a list
 abbrev pub command_layout : Layout Command
 command_layout =
     laid_out (
@@ -32,7 +32,8 @@ pub command_back : (v : Command) → command_layout.rows.table.Back (command_lay
 unfolding command
 command_back v back = returns_kind command_layout refl v back
 
--- name, task_id, agent_id: required; resources: a list; command, executor: optional
+-- the members of a task to launch; name, task_id, agent_id: required; resources: a list; command,
+-- executor: optional
 abbrev pub task_info_layout : Layout TaskInfo
 task_info_layout =
     laid_out (
@@ -63,7 +64,7 @@ pub task_info_back : (v : TaskInfo) → task_info_layout.rows.table.Back (task_i
 unfolding task_info
 task_info_back v back = returns_kind task_info_layout refl v back
 
--- task_id: required; agent_id: optional
+-- the members of a task in a RECONCILE call; task_id: required; agent_id: optional
 abbrev pub task_ref_layout : Layout TaskRef
 task_ref_layout =
     laid_out (

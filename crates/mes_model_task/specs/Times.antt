@@ -7,7 +7,7 @@ use Rattle.mes_model_schema.specs.NumberLaws.{lawful_whole}
 use Rattle.mes_model_schema.specs.Layouts.{Layout, needs, no_more, ◌⨾⨾◌, laid_out, kind_of, lawful_kind, returns_kind}
 use Rattle.mes_model_task.specs.declared.time_info.TimeInfo.{TimeInfo}
 
--- nanoseconds: required
+-- the members of a point in time; nanoseconds: required
 abbrev pub time_info_layout : Layout TimeInfo
 time_info_layout =
     laid_out (

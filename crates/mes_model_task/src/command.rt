@@ -33,7 +33,7 @@ impl ConstructFrom<<CommandRows as RowList>::Values> for Command {
     }
 }
 
-/// The borrowed values of the rows.
+/// Expands to the borrowed values of the members, in the order of the table.
 macro_rules! command_rows {
     ($of:ident) => {
         pairs!(

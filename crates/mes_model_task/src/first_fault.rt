@@ -1,4 +1,5 @@
-//! The laws that list the faults of states and statuses in order. They have no code.
+//! The laws, stated as contracts of empty functions, that list the faults of states and statuses in
+//! order.
 
 ghost use Rattle.std.specs.Prelude.{◌↔◌, List};
 ghost use Rattle.mes_model_schema.specs.Tree.{Tree};
@@ -19,7 +20,8 @@ pub fn state_breaks()
         → Breaks states at t f ↔ ValueBreaks IsString UnknownName states at t f }
 {}
 
-/// A status has a fault if it is not an object, or the first row that is not read has the fault.
+/// A status has a fault if it is not an object, or a member in its table has a fault. The fault of
+/// the first such member is reported.
 pub fn task_status_breaks()
     ensures { (at : List Place) (t : Tree) (f : FieldFault)
         → Breaks task_status at t f ↔ OfMessage OfStatus at t f }

@@ -1,9 +1,10 @@
 #![tactic(auto)]
 //! Tasks and their statuses in the JSON form of the Apache Mesos v1 scheduler API (mesos.proto).
 //!
-//! Each message type is a `Part` of `mes_model_schema`: read exactly, written as canonical JSON
-//! that is read back, and copied. Reading any other value returns the path and reason of the first
-//! fault. [`TaskStatus::owed_key`] returns the key of the acknowledgement that an update requires.
+//! Each message type implements the trait `Part` of `mes_model_schema`. Its values are read from
+//! JSON, written as canonical JSON that is read back to the same value, and copied. Reading any
+//! other JSON value returns the path and the reason of the first fault. [`TaskStatus::owed_key`]
+//! returns the key of the acknowledgement that an update requires.
 //!
 //! ```ignore
 //! let status = TaskStatus::read(alloc, &json, &Path::new())?; // or: state UnknownName

@@ -1,4 +1,4 @@
-//! The key of an acknowledgement.
+//! The key of the acknowledgement that a status update requires.
 
 ghost use Rattle.std.specs.Prelude.{◌≡◌, IsTrue, ◌↔◌, IfOk};
 
@@ -12,7 +12,7 @@ use std::alloc::Global;
 pub struct OwedKey {
     /// The agent of the task.
     pub agent: Id,
-    /// The task.
+    /// The identifier of the task.
     pub task: Id,
     /// The uuid of the update.
     pub uuid: Bytes,
@@ -30,7 +30,7 @@ impl OwedKey {
     }
 }
 
-/// Returns whether two keys have the same agent, task and uuid; `==` returns the same.
+/// Returns whether two keys have the same agent, task and uuid, like `==`.
 pub fn equal_keys(key: &OwedKey, other: &OwedKey) -> bool
     ensures { IsTrue result ↔ key.now ≡ other.now }
 {

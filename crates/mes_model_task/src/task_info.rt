@@ -14,7 +14,7 @@ use std::alloc::Global;
 /// A task that a framework launches (`TaskInfo` in mesos.proto).
 #[derive(Debug, Drop)]
 pub struct TaskInfo {
-    /// The name.
+    /// The name of the task.
     pub name: Text,
     /// The identifier of the task.
     pub task_id: Id,
@@ -24,7 +24,7 @@ pub struct TaskInfo {
     pub resources: List<Resource>,
     /// The command to run, if there is no executor.
     pub command: Option<Command>,
-    /// The executor that runs the task, retained whole.
+    /// The executor that runs the task: a JSON object that is retained with all its members.
     pub executor: Option<Kept>,
 }
 
@@ -56,7 +56,7 @@ impl ConstructFrom<<TaskInfoRows as RowList>::Values> for TaskInfo {
     }
 }
 
-/// The borrowed values of the rows.
+/// Expands to the borrowed values of the members, in the order of the table.
 macro_rules! task_info_rows {
     ($of:ident) => {
         pairs!(

@@ -32,7 +32,7 @@ impl ConstructFrom<<TaskRefRows as RowList>::Values> for TaskRef {
     }
 }
 
-/// The borrowed values of the rows.
+/// Expands to the borrowed values of the members, in the order of the table.
 macro_rules! task_ref_rows {
     ($of:ident) => {
         pairs!(

@@ -41,7 +41,7 @@ pub enum TaskState {
 }
 
 impl TaskState {
-    /// Returns the name in JSON, such as `TASK_RUNNING`.
+    /// Returns the name of the state in JSON, such as `TASK_RUNNING`.
     pub fn name(self) -> &'static str
         ensures { result.now ≡ state_name self }
     {

@@ -20,7 +20,7 @@ use std::alloc::Global;
 /// The status of a task, as in an UPDATE event (`TaskStatus` in mesos.proto).
 #[derive(Debug, Drop)]
 pub struct TaskStatus {
-    /// The task.
+    /// The identifier of the task.
     pub task_id: Id,
     /// The state of the task.
     pub state: TaskState,
@@ -40,7 +40,7 @@ pub struct TaskStatus {
     pub timestamp: Option<Micros>,
     /// The uuid that an acknowledgement repeats. An update without it is not acknowledged.
     pub uuid: Option<Bytes>,
-    /// The result of the health check.
+    /// The result of the task's health check.
     pub healthy: Option<bool>,
     /// Labels given to the task, which have no effect.
     pub labels: Option<Labels>,
@@ -134,7 +134,7 @@ impl ConstructFrom<<TaskStatusRows as RowList>::Values> for TaskStatus {
     }
 }
 
-/// The borrowed values of the rows.
+/// Expands to the borrowed values of the members, in the order of the table.
 macro_rules! task_status_rows {
     ($of:ident) => {
         pairs!(

@@ -11,8 +11,8 @@ use std::alloc::Global;
 /// A point in time (`TimeInfo` in mesos.proto).
 #[derive(Debug, Drop)]
 pub struct TimeInfo {
-    /// Nanoseconds since 1970-01-01 UTC. The field of mesos.proto is signed; a negative value is a
-    /// fault here.
+    /// Nanoseconds since 1970-01-01 UTC. The field is signed in mesos.proto, but reading a negative
+    /// value returns a fault.
     pub nanoseconds: u64,
 }
 
@@ -30,7 +30,7 @@ impl ConstructFrom<<TimeInfoRows as RowList>::Values> for TimeInfo {
     }
 }
 
-/// The borrowed values of the rows.
+/// Expands to the borrowed values of the members, in the order of the table.
 macro_rules! time_info_rows {
     ($of:ident) => {
         pairs!(RequiredRowRef(&$of.nanoseconds))

@@ -1,4 +1,4 @@
-//! Frameworks, capabilities and filters.
+//! Tests of frameworks, their capabilities, and filters on offers.
 
 use crate::support::{expect_faults, expect_values};
 use mes_model::{Capability, Filters, FrameworkInfo};
@@ -18,7 +18,7 @@ const CAPABILITY_WRITTEN: &str = r#"{} => {}
 {"type":""} => {"type":""}
 "#;
 
-/// Faults of the required rows of a framework.
+/// Invalid texts with a fault of a required member of a framework.
 const REQUIRED: &str = r#"null => . WrongKind
 [] => . WrongKind
 {"name":"n"} => user Missing
@@ -34,7 +34,7 @@ const REQUIRED: &str = r#"null => . WrongKind
 {"id":1,"user":"u"} => name Missing
 "#;
 
-/// Faults of the rows from `id` to `checkpoint`.
+/// Invalid texts with a fault of a member from `id` to `checkpoint`.
 const UP_TO_CHECKPOINT: &str = r#"{"user":"u","name":"n","id":"i"} => id WrongKind
 {"user":"u","name":"n","id":[]} => id WrongKind
 {"user":"u","name":"n","id":{}} => id.value Missing
@@ -61,7 +61,7 @@ const UP_TO_CHECKPOINT: &str = r#"{"user":"u","name":"n","id":"i"} => id WrongKi
 {"checkpoint":null,"user":"u","name":"n","checkpoint":null} => checkpoint Twice
 "#;
 
-/// Faults of the rows from `roles` on.
+/// Invalid texts with a fault of a member from `roles` on.
 const FROM_ROLES: &str = r#"{"user":"u","name":"n","roles":"r"} => roles WrongKind
 {"user":"u","name":"n","roles":{}} => roles WrongKind
 {"user":"u","name":"n","roles":[1]} => roles[0] WrongKind
@@ -87,7 +87,7 @@ const FROM_ROLES: &str = r#"{"user":"u","name":"n","roles":"r"} => roles WrongKi
 {"capabilities":null,"user":"u","name":"n","capabilities":null} => capabilities Twice
 "#;
 
-/// The order of faults.
+/// Invalid texts with two or more faults, of which the first is reported.
 const FIRST: &str = r#"{"capabilities":1,"principal":1,"user":"u","name":"n"} => principal WrongKind
 {"principal":1,"hostname":1,"user":"u","name":"n"} => hostname WrongKind
 {"hostname":1,"roles":1,"user":"u","name":"n"} => roles WrongKind
@@ -121,7 +121,7 @@ const FILTERS: &str = r#"null => . WrongKind
 {"refuse_seconds":null,"refuse_seconds":5} => refuse_seconds Twice
 "#;
 
-/// Seconds are rounded to the nearest millionth, a half upwards.
+/// Valid filters. Seconds are rounded to the nearest millionth, a half upwards.
 const FILTERS_WRITTEN: &str = r#"{} => {}
 {"refuse_seconds":null} => {}
 {"refuse_seconds":5} => {"refuse_seconds":5.0}

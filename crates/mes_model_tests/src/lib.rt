@@ -1,5 +1,5 @@
-//! Tests of message parts by the public calls of `mes_model` and the crates that it re-exports:
-//! tables of JSON texts with their results.
+//! Tests of messages with the public functions of `mes_model` and of the crates that it re-exports.
+//! Most tests have a table of JSON texts, each with the expected result.
 #![tactic(auto)]
 
 #[cfg(test)]

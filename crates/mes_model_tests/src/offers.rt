@@ -1,10 +1,10 @@
-//! Offers.
+//! Tests of offers.
 
 use crate::support::{expect_faults, expect_values};
 use mes_model::Offer;
 use std::test::Fail;
 
-/// Faults of the required rows.
+/// Invalid texts with a fault of a required member.
 const REQUIRED: &str = r#"null => . WrongKind
 {"framework_id":{"value":"f"},"agent_id":{"value":"a"},"hostname":"h"} => id Missing
 {"id":null,"framework_id":{"value":"f"},"agent_id":{"value":"a"},"hostname":"h"} => id Missing
@@ -27,7 +27,7 @@ const REQUIRED: &str = r#"null => . WrongKind
 {"id":{"value":"o"},"framework_id":{"value":"f"},"agent_id":{"value":"a","value":"a"},"hostname":"h"} => agent_id.value Twice
 "#;
 
-/// Faults of the other rows.
+/// Invalid texts with a fault of another member.
 const OTHERS: &str =
     r#"{"id":{"value":"o"},"framework_id":{"value":"f"},"agent_id":{"value":"a"},"hostname":"h","resources":{}} => resources WrongKind
 {"id":{"value":"o"},"framework_id":{"value":"f"},"agent_id":{"value":"a"},"hostname":"h","resources":[],"resources":[]} => resources Twice

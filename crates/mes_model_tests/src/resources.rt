@@ -1,10 +1,10 @@
-//! Resources and attributes.
+//! Tests of resources and attributes.
 
 use crate::support::{expect_faults, expect_values};
 use mes_model::{Attribute, Resource};
 use std::test::Fail;
 
-/// Faults of the name, and the order of faults.
+/// Invalid texts with a fault of the member `name`, or with two faults, of which one is first.
 const NAMES: &str = r#"[] => . WrongKind
 {"type":"SET","set":{}} => name Missing
 {"name":null,"type":"SET","set":{}} => name Missing
@@ -15,7 +15,7 @@ const NAMES: &str = r#"[] => . WrongKind
 {"name":"a","role":1} => type Missing
 "#;
 
-/// Faults of the member `type`.
+/// Invalid texts with a fault of the member `type`.
 const TYPES: &str = r#"{"name":"a"} => type Missing
 {"name":"a","type":null} => type Missing
 {"name":"a","type":0} => type WrongKind
@@ -24,7 +24,7 @@ const TYPES: &str = r#"{"name":"a"} => type Missing
 {"name":"a","type":"set","set":{}} => type UnknownName
 "#;
 
-/// Faults of the member that the type selects.
+/// Invalid texts with a fault of the member that the type selects.
 const VALUES: &str = r#"{"name":"a","type":"SCALAR","set":{}} => scalar Missing
 {"name":"a","type":"SCALAR","scalar":null} => scalar Missing
 {"name":"a","type":"SCALAR","scalar":1} => scalar WrongKind
@@ -42,7 +42,7 @@ const VALUES: &str = r#"{"name":"a","type":"SCALAR","set":{}} => scalar Missing
 {"name":"a","type":"SET","set":{"item":["a",{}]}} => set.item[1] WrongKind
 "#;
 
-/// Faults of the rows after the value.
+/// Invalid texts with a fault of a member after the value in the table of a resource.
 const ROWS: &str = r#"{"name":"a","type":"SET","set":{},"role":1} => role WrongKind
 {"name":"a","type":"SET","set":{},"role":"a","role":"a"} => role Twice
 {"name":"a","type":"SET","set":{},"allocation_info":"a"} => allocation_info WrongKind
@@ -68,7 +68,7 @@ const ROWS: &str = r#"{"name":"a","type":"SET","set":{},"role":1} => role WrongK
 {"name":"a","type":"SET","set":{},"reservations":1,"reservation":1,"role":1} => role WrongKind
 "#;
 
-/// Faults of the text of an attribute.
+/// Invalid texts with a fault of the text of an attribute.
 const TEXTS: &str = r#"{"name":"a","type":"TEXT","set":{}} => text Missing
 {"name":"a","type":"TEXT","text":null} => text Missing
 {"name":"a","type":"TEXT","text":"a"} => text WrongKind
@@ -76,11 +76,12 @@ const TEXTS: &str = r#"{"name":"a","type":"TEXT","set":{}} => text Missing
 {"name":"a","type":"TEXT","text":{"value":null}} => text.value Missing
 "#;
 
-/// An attribute may be a text, a resource may not.
+/// A value of type `TEXT`, which is valid for an attribute and invalid for a resource.
 const NO_TEXT: &str = r#"{"name":"a","type":"TEXT","text":{"value":"a"}} => type UnknownName
 "#;
 
-/// Values that resources and attributes share. Members of other types are ignored, even duplicates.
+/// Valid values of both resources and attributes. Members of other types are ignored, even if they
+/// are duplicates.
 const BOTH_WRITTEN: &str =
     r#"{"scalar":{"value":1.5},"type":"SCALAR","name":"cpus"} => {"name":"cpus","type":"SCALAR","scalar":{"value":1.5}}
 {"name":"ports","type":"RANGES","scalar":1,"scalar":[],"ranges":{"range":[{"begin":1,"end":2}]}} => {"name":"ports","type":"RANGES","ranges":{"range":[{"begin":1,"end":2}]}}

@@ -1,4 +1,4 @@
-//! What no contract shows: the JSON texts of paths, bytes, labels and retained objects.
+//! Tests of what no contract states: the JSON texts of paths, bytes, labels and retained objects.
 
 mod bytes;
 mod path;

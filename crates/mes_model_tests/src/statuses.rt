@@ -1,4 +1,4 @@
-//! Statuses of tasks, their states, and the acknowledgements that they require.
+//! Tests of task statuses, task states, and the acknowledgements that statuses require.
 
 use crate::support::{expect_faults, expect_values, row_of, value_of};
 use mes_model::{OwedKey, Part, TaskState, TaskStatus};
@@ -6,7 +6,7 @@ use std::alloc::{AllocGlobal, Global};
 use std::process::Abort;
 use std::test::Fail;
 
-/// Each state and its name.
+/// All task states, each with its name.
 const STATES: [(TaskState, &str); 14] = [
     (TaskState::Staging, "TASK_STAGING"),
     (TaskState::Starting, "TASK_STARTING"),
@@ -36,7 +36,7 @@ const NO_STATES: [&str; 8] = [
     "TASK_GONE_BY_OPERATORS",
 ];
 
-/// Faults of a state.
+/// Invalid texts of a task state.
 const STATE_FAULTS: &str = r#"null => . WrongKind
 true => . WrongKind
 3 => . WrongKind
@@ -53,7 +53,7 @@ const STATES_WRITTEN: &str = r#""TASK_STAGING" => "TASK_STAGING"
 "TASK_UNKNOWN" => "TASK_UNKNOWN"
 "#;
 
-/// Faults of the required rows.
+/// Invalid texts with a fault of a required member of a status.
 const REQUIRED: &str = r#"null => . WrongKind
 [] => . WrongKind
 {"state":"TASK_RUNNING"} => task_id Missing
@@ -77,7 +77,7 @@ const REQUIRED: &str = r#"null => . WrongKind
 {"message":1,"state":1,"task_id":1} => task_id WrongKind
 "#;
 
-/// Faults of the strings and of the bytes.
+/// Invalid texts with a fault of a string or of bytes in a status.
 const TEXTS: &str =
     r#"{"task_id":{"value":"t"},"state":"TASK_LOST","message":1} => message WrongKind
 {"task_id":{"value":"t"},"state":"TASK_LOST","message":"m","message":"m"} => message Twice
@@ -105,7 +105,7 @@ const TEXTS: &str =
 {"task_id":{"value":"t"},"state":"TASK_LOST","message":null,"source":null,"reason":null,"data":null,"uuid":null,"healthy":"true"} => healthy WrongKind
 "#;
 
-/// Faults of the other rows.
+/// Invalid texts with a fault of another member of a status.
 const OTHERS: &str =
     r#"{"task_id":{"value":"t"},"state":"TASK_LOST","agent_id":"a"} => agent_id WrongKind
 {"task_id":{"value":"t"},"state":"TASK_LOST","agent_id":{}} => agent_id.value Missing
@@ -156,7 +156,7 @@ const WRITTEN: &str =
 /// The agent, the task and the uuid of a key.
 type Key = (&'static str, &'static str, &'static [u8]);
 
-/// A status, and the key of the acknowledgement that it requires.
+/// A status, and the key of the acknowledgement that it requires, if it requires one.
 type Owing = (&'static str, Option<Key>);
 
 const OWING: [Owing; 8] = [
@@ -195,12 +195,12 @@ const OWING: [Owing; 8] = [
     ),
 ];
 
-/// Two statuses with the same key.
+/// Two statuses with the same key of an acknowledgement.
 const SAME: &str =
     r#"{"task_id":{"value":"t"},"state":"TASK_LOST","agent_id":{"value":"a"},"uuid":"Zm8="} => {"uuid":"Zm8=","agent_id":{"value":"a"},"healthy":true,"state":"TASK_GONE","task_id":{"value":"t"}}
 "#;
 
-/// Pairs of statuses with different keys.
+/// Pairs of statuses with different keys of acknowledgements.
 const OTHERS_OWED: &str =
     r#"{"task_id":{"value":"t"},"state":"TASK_LOST","agent_id":{"value":"a"},"uuid":"Zm8="} => {"task_id":{"value":"t"},"state":"TASK_LOST","agent_id":{"value":"b"},"uuid":"Zm8="}
 {"task_id":{"value":"t"},"state":"TASK_LOST","agent_id":{"value":"a"},"uuid":"Zm8="} => {"task_id":{"value":"tt"},"state":"TASK_LOST","agent_id":{"value":"a"},"uuid":"Zm8="}
@@ -267,7 +267,7 @@ fn the_first_fault_of_a_status_is_reported(rt: HostRuntime) -> Result<(), Fail> 
     expect_faults::<TaskStatus, HostRuntime>(&rt, OTHERS)
 }
 
-/// The deepest fault of a status is four steps below it: that of the key of a label.
+/// The deepest fault of a status is the fault of the key of a label, four steps below the status.
 #[test]
 fn a_fault_is_at_most_4_steps_below_a_status(rt: HostRuntime) {
     assert_eq!(rt; <TaskStatus as Part>::STEPS, 4);
@@ -293,22 +293,22 @@ fn expect_owed<R: Abort + AllocGlobal>(rt: &R, text: &str, owed: Option<Key>) ->
     Ok(())
 }
 
-/// Compares the keys of two statuses, in both orders.
+/// Returns whether the keys of two statuses are equal, compared in both orders.
 fn are_same(alloc: Global, text: &str, other: &str) -> Result<(bool, bool), Fail> {
     let key = key_of(alloc, text)?;
     let other = key_of(alloc, other)?;
     Ok((key == other, other == key))
 }
 
-/// Returns whether the copy of a key equals the key, as a whole and part by part.
+/// Returns whether the copy of a status's key equals the key, and so does each field of the copy.
 fn is_copied(alloc: Global, text: &str) -> Result<bool, Fail> {
     let key = key_of(alloc, text)?;
     let copy = key.copy(alloc)?;
     Ok(key == copy && parts(&copy) == parts(&key))
 }
 
-/// Checks whether the keys of the two statuses of a row are equal, and that the first equals its
-/// copy.
+/// Checks that the keys of the two statuses on a line are equal if and only if `same` is true, and
+/// that the first key equals its copy.
 fn expect_key<R: Abort + AllocGlobal>(rt: &R, row: &str, same: bool) -> Result<(), Fail> {
     let (text, other) = row_of(row)?;
     let both = are_same(rt.alloc(), text, other)?;

@@ -1,8 +1,8 @@
-//! Helpers of the tests of message parts.
+//! Helpers of the tests of messages.
 //!
-//! A table is a text with a row on each line: `TEXT => PATH REASON` for a text with a fault, and
-//! `TEXT => CANONICAL` for a valid one. The proof of a test of a table of literals takes time in
-//! proportion to its rows; one text takes none.
+//! A table of tests is one string with a test on each line: `TEXT => PATH REASON` for an invalid
+//! JSON text, and `TEXT => CANONICAL` for a valid one. The time to prove a test grows with the
+//! number of string literals in its table, so each table is a single literal.
 
 ghost use Rattle.std.specs.Prelude.{◌≤◌};
 
@@ -62,7 +62,7 @@ pub(crate) fn expect_fault<R: Abort>(
     Ok(())
 }
 
-/// Reads a text from its tape.
+/// Reads the value of a text from its token tape.
 pub(crate) fn read<T: Part>(alloc: Global, text: &str) -> Result<Result<T, PartFault>, Fail>
     requires { T.STEPS ≤ MAX_PATH_STEPS }
 {
@@ -79,14 +79,14 @@ pub(crate) fn value_of<T: Part>(alloc: Global, text: &str) -> Result<T, Fail>
     }
 }
 
-/// Returns the fault of an invalid text, read from its tape.
+/// Returns the first fault of a text, read from its token tape, if the text is invalid.
 pub(crate) fn fault_of<T: Part>(alloc: Global, text: &str) -> Result<Option<FieldFault>, Fail>
     requires { T.STEPS ≤ MAX_PATH_STEPS }
 {
     Ok(part_fault_of(read::<T>(alloc, text)?))
 }
 
-/// Like [`fault_of`], but from its tree.
+/// Like [`fault_of`], but read from the JSON tree of the text.
 fn fault_of_tree<T: Part>(alloc: Global, text: &str) -> Result<Option<FieldFault>, Fail>
     requires { T.STEPS ≤ MAX_PATH_STEPS }
 {
@@ -94,7 +94,7 @@ fn fault_of_tree<T: Part>(alloc: Global, text: &str) -> Result<Option<FieldFault
     Ok(part_fault_of(T::read(alloc, &tree, &Path::new())))
 }
 
-/// Checks the first fault of each text, read from its tape and from its tree.
+/// Checks the first fault of each text in a table, read from its token tape and from its JSON tree.
 pub(crate) fn expect_faults<T: Part, R: Abort + AllocGlobal>(
     rt: &R,
     faults: &str,
@@ -136,7 +136,7 @@ fn text_without_tree<T: Part>(alloc: Global, value: &T) -> Result<Vec<u8>, Fail>
     Ok(out)
 }
 
-/// Checks each row: the copy of the value has the canonical text.
+/// Checks for each line of a table that the copy of the value has the canonical text.
 pub(crate) fn expect_values<T: Part, R: Abort + AllocGlobal>(
     rt: &R,
     values: &str,
@@ -150,7 +150,7 @@ pub(crate) fn expect_values<T: Part, R: Abort + AllocGlobal>(
     Ok(())
 }
 
-/// Checks the text of a value, written from its tree and directly.
+/// Checks the text of a value, written from its tree and without a tree.
 fn expect_written<T: Part, R: Abort + AllocGlobal>(
     rt: &R,
     text: &str,

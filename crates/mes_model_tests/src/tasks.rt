@@ -1,4 +1,4 @@
-//! Commands, tasks to launch, and tasks in a RECONCILE call.
+//! Tests of commands, tasks to launch, and tasks in a RECONCILE call.
 
 use crate::support::{expect_faults, expect_values};
 use mes_model::{Command, TaskInfo, TaskRef};
@@ -34,7 +34,7 @@ const COMMAND_WRITTEN: &str = r#"{} => {}
 {"user":1,"value":"","user":2,"shell":true} => {"value":"","shell":true}
 "#;
 
-/// Faults of the required rows of a task.
+/// Invalid texts with a fault of a required member of a task.
 const REQUIRED: &str = r#"null => . WrongKind
 [] => . WrongKind
 {"task_id":{"value":"t"},"agent_id":{"value":"a"}} => name Missing
@@ -56,7 +56,7 @@ const REQUIRED: &str = r#"null => . WrongKind
 {"agent_id":1,"task_id":1,"name":"n"} => task_id WrongKind
 "#;
 
-/// Faults of the other rows of a task.
+/// Invalid texts with a fault of another member of a task.
 const OTHERS: &str =
     r#"{"name":"n","task_id":{"value":"t"},"agent_id":{"value":"a"},"resources":{}} => resources WrongKind
 {"name":"n","task_id":{"value":"t"},"agent_id":{"value":"a"},"resources":[],"resources":[]} => resources Twice

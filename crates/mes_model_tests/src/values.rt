@@ -1,10 +1,10 @@
-//! Identifiers, values of resources and attributes, and reservations.
+//! Tests of identifiers, of the values of resources and attributes, and of reservations.
 
 use crate::support::{expect_faults, expect_values};
 use mes_model::{Allocation, Id, Range, Ranges, Reservation, Scalar, Set, TextValue};
 use std::test::Fail;
 
-/// Faults of a message with one required string, `value`.
+/// Invalid texts of a message with one required string, `value`.
 const ONE_TEXT: &str = r#"[] => . WrongKind
 null => . WrongKind
 {} => value Missing

@@ -1,4 +1,4 @@
--- Bytes are a JSON text of one value or have one fault, and not both.
+-- Lemmas: bytes are a JSON text of exactly one value or have exactly one fault, and not both.
 use Rattle.std.proofs.Common.{◌≡◌, ◌≢◌, ℕ, ◌⊎◌, inl, inr, List, [], sym, ◌∙◌, ap, refl, subst, Result, Ok, Err}
 use Rattle.mes_model_schema.specs.Tree.{Tree}
 use Rattle.mes_model_schema.specs.Grammar.{IsText}

@@ -1,4 +1,4 @@
--- The printed name of the reason for which no record can hold a message.
+-- The printed name of the reason for which an event or a call has no canonical text.
 use Rattle.std.specs.Prelude.{ℕ, List, codes}
 use Rattle.mes_msg.specs.declared.send_fault.EncodeFaultKind.{EncodeFaultKind}
 use Rattle.mes_msg.specs.declared.send_fault.EncodeFaultKind.TheVariants.{TooDeep, TooLarge}

@@ -1,16 +1,16 @@
 #![tactic(auto)]
 //! The events and calls of the Apache Mesos v1 scheduler API in JSON.
 //!
-//! A message is read from the bytes of a record or from a JSON tree, copied, and written as
-//! canonical JSON. Reading finds the one value of the bytes or their first fault. The canonical
-//! text reads back to the same value.
+//! An event or a call is read from the bytes of a record or from a JSON tree, copied, and written
+//! as canonical JSON. Reading returns the one event or call of the bytes, or their first fault. The
+//! canonical text is read back as the same event or call.
 //!
 //!     let event = Event::read_record(rt.alloc(), br#"{"type":"HEARTBEAT"}"#)?;
 //!     let text = event.canon(rt.alloc(), Limit::USUAL)?;
 //!
-//! Events are in the crate `mes_msg_event`, calls in `mes_msg_call`, and what both use in
-//! `mes_msg_record`. Here are the entries of a session log and the faults of sending. The tests are
-//! in the crate `mes_msg_tests`.
+//! Events are in the crate `mes_msg_event`, calls in `mes_msg_call`, and the code that both use in
+//! `mes_msg_record`. This crate has the entries of a session log and the faults of sending. The
+//! tests are in the crate `mes_msg_tests`.
 
 mod entry;
 mod send_fault;

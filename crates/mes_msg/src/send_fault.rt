@@ -1,11 +1,11 @@
-//! The faults of sending messages. `mes_frame::WriteFault` is the writer's part of them.
+//! The faults of sending events or calls. `mes_frame::WriteFault` is the fault of the writer.
 
 ghost use Rattle.std.specs.Prelude.{◌≡◌, ◌≤◌, length};
 ghost use Rattle.mes_msg.specs.EncodeWhys.{encode_fault_kind_name};
 
 use mes_frame::WriteFault;
 
-/// The reason for which no record within the limit can hold a message.
+/// The reason for which an event or a call has no canonical text within the limit of a record.
 #[derive(Clone, Copy, Debug, PartialEq, Eq)]
 pub enum EncodeFaultKind {
     /// The canonical text nests deeper than `MAX_NESTING`.
@@ -15,7 +15,7 @@ pub enum EncodeFaultKind {
 }
 
 impl EncodeFaultKind {
-    /// Returns the printed name.
+    /// Returns the printed name of the reason.
     pub fn name(self) -> &'static str
         ensures text { result.now ≡ encode_fault_kind_name self }
         ensures bound { length result.now ≤ 8 }
@@ -30,11 +30,11 @@ impl EncodeFaultKind {
 /// The reason for which some of the messages (events or calls) were not sent.
 #[derive(Clone, Copy, Debug, PartialEq, Eq)]
 pub enum SendFault {
-    /// No record within the limit can hold one of the messages. Nothing was written.
+    /// One of the messages has no canonical text within the limit of a record. Nothing was written.
     Encode {
         /// The index of the first such message, from 0.
         index: usize,
-        /// The reason.
+        /// The reason for which that message has no canonical text.
         why: EncodeFaultKind,
     },
     /// An allocation failed. Nothing was written.

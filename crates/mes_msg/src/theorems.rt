@@ -1,5 +1,5 @@
-//! A theorem about the definitions that the contracts use, stated as the contract of an empty
-//! function.
+//! The law, stated as the contract of an empty function, that bytes have exactly one value or
+//! exactly one fault.
 
 ghost use Rattle.std.specs.Prelude.{◌≡◌, ◌≢◌, ◌⊎◌, ℕ, List};
 ghost use Rattle.mes_msg_record.specs.Texts.{IsTextOf, IsFaultOf};
@@ -9,8 +9,8 @@ use mes_model_schema::Part;
 use mes_model_schema::json::text_reading_is_unique;
 use mes_msg_record::RecordFault;
 
-/// Proves that any bytes are either a JSON text of exactly one value of `T`, or have exactly one
-/// fault. Running out of memory does not count as a fault of the bytes.
+/// Proves that any bytes either are a JSON text of exactly one value of `T`, or have exactly one
+/// fault. `NoMemory` does not count as a fault of the bytes.
 pub fn message_reading_is_unique<T: Part>()
     // Any bytes have a value or a fault.
     ensures some { (b : List ℕ) → ((v : T) × IsTextOf T.kind b v)

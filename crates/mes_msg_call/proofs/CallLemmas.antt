@@ -1,4 +1,4 @@
--- Members that are appended one after another.
+-- Lemmas: members are appended one after another.
 use Rattle.std.proofs.Common.{◌≡◌, List, [], ◌∷◌, ◌++◌, refl, subst}
 use Rattle.std.proofs.lemmas.List.{append_assoc}
 use Rattle.std.specs.Prelude.{Result, OnOk}

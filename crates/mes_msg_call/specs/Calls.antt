@@ -24,15 +24,15 @@ use Rattle.mes_msg_call_body.specs.declared.shutdown.Shutdown.{Shutdown}
 use Rattle.mes_msg_call.specs.declared.call.Call.{Call}
 use Rattle.mes_msg_call.specs.declared.call.Call.TheVariants as of
 
--- a call with framework_id and a body
+-- the members of a call with a body; framework_id: required; the member with the body: required
 abbrev pub with_body : {V : Type 0} → List ℕ → Kind V → Table (Id × V)
 with_body n k = need (codes "framework_id") id ⨾ need n k
 
--- a call with framework_id, and without a body
+-- the members of a call without a body; framework_id: required; a member of this name: unsupported
 abbrev pub without_body : List ℕ → Table (Id × Option ⊥)
 without_body n = need (codes "framework_id") id ⨾ maybe n left_out
 
--- the fields of a call, by its type
+-- the values of the members of a call: one alternative for each type
 abbrev pub CallRows : Type 0
 CallRows = (Option Id × Subscribe) ⊎ (Id × Accept) ⊎ (Id × Decline) ⊎ (Id × Option ⊥) ⊎ (Id × Kill) ⊎ (Id × Acknowledge) ⊎ (Id × Reconcile) ⊎ Id ⊎ (Id × Option ⊥) ⊎ (Id × Shutdown) ⊎ (Id × Message) ⊎ ⊥
 
@@ -63,7 +63,8 @@ from_call (of.Suppress framework) = inr (inr (inr (inr (inr (inr (inr (inr (inl 
 from_call (of.Shutdown framework body) = inr (inr (inr (inr (inr (inr (inr (inr (inr (inl (framework, body))))))))))
 from_call (of.Message framework body) = inr (inr (inr (inr (inr (inr (inr (inr (inr (inr (inl (framework, body)))))))))))
 
--- a call has type, framework_id (optional in SUBSCRIBE) and its body; other types are refused
+-- the members of a call; type, the body of that type, framework_id (optional in SUBSCRIBE):
+-- required; another type is a fault
 abbrev pub call_rows : Table Call
 call_rows =
     mapped (typed (
@@ -92,7 +93,7 @@ call_rows =
     )
     )) to_call from_call
 
--- the names of a call's members
+-- the names of the members of a call
 abbrev pub call_members : List (List ℕ)
 call_members =
     codes "type" ∷ codes "framework_id" ∷ codes "subscribe" ∷ codes "accept" ∷ codes "decline" ∷ codes "revive" ∷ codes "kill" ∷ codes "acknowledge" ∷ codes "reconcile"
@@ -101,7 +102,7 @@ call_members =
 unfoldable pub call : Kind Call
 call = message call_rows
 
--- ---- the laws
+-- ---- the laws of the kind of calls
 
 to_from_call : (v : Call) → to_call (from_call v) ≡ v
 to_from_call (of.Subscribe framework body) = refl
@@ -116,7 +117,7 @@ to_from_call (of.Suppress framework) = refl
 to_from_call (of.Shutdown framework body) = refl
 to_from_call (of.Message framework body) = refl
 
--- the body nests at least as deep as framework_id
+-- the law of a call with a body, whose faults are at least as deep as those of framework_id
 lawful_with_body : {V : Type 0} {n : List ℕ} {k : Kind V} {steps : ℕ} → Lawful k steps → LawfulTable (with_body n k) (max 2 (1 + steps))
 lawful_with_body lawful = lawful_both (lawful_need lawful_id) (lawful_need lawful)
 

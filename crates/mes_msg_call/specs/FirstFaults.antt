@@ -1,4 +1,4 @@
--- The first fault of a call, in the order of its table.
+-- The first fault of a call, member by member in the order of its table.
 use Rattle.std.specs.Prelude.{ℕ, List, codes}
 use Rattle.mes_model_schema.specs.Kinds.{Kind}
 use Rattle.mes_model_schema.specs.Leaves.{left_out}
@@ -9,15 +9,16 @@ use Rattle.mes_model_resource.specs.Ids.{id}
 use Rattle.mes_msg_record.specs.Messages.{message_body}
 use Rattle.mes_msg_call_body.specs.CallBodies.{subscribe, accept, decline, kill, acknowledge, reconcile, shutdown}
 
--- a call with framework_id and a body
+-- the first fault of the members framework_id and the body, both required
 abbrev pub WithBody : {V : Type 0} → List ℕ → Kind V → OfRows
 WithBody n k = NeedThen (codes "framework_id") id (NeedBreaks k n)
 
--- a call with framework_id, and without a body
+-- the first fault of the required member framework_id and of an unsupported member of this name
 abbrev pub WithoutBody : List ℕ → OfRows
 WithoutBody n = NeedThen (codes "framework_id") id (OptionalBreaks left_out n)
 
--- a call has type, framework_id (optional in SUBSCRIBE) and its body; other types are refused
+-- the first fault of the members; type, framework_id (optional in SUBSCRIBE), the body of that
+-- type: required; another type is a fault
 abbrev pub OfCall : OfRows
 OfCall =
     ByType (

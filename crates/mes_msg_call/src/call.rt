@@ -28,76 +28,76 @@ use mes_msg_call_body::{Accept, Acknowledge, Decline, Kill, Reconcile, Shutdown,
 use mes_msg_record::{EncodeFault, Message, RecordFault, canonical_bytes, read_bytes};
 use std::alloc::Global;
 
-/// A call of the scheduler API (scheduler.proto, `Call`) with the framework that sends it.
+/// A call of the scheduler API (scheduler.proto, `Call`), with the framework that sends the call.
 #[derive(Debug, Drop)]
 pub enum Call {
     /// SUBSCRIBE: the framework subscribes or resubscribes.
     Subscribe {
-        /// The framework, if it has subscribed before.
+        /// The identifier of the framework, if the framework has subscribed before.
         framework_id: Option<Id>,
         /// The description of the framework.
         body: Subscribe,
     },
     /// ACCEPT: accepts offers.
     Accept {
-        /// The framework.
+        /// The framework that sends the call.
         framework_id: Id,
-        /// The offers, and the operations on them.
+        /// The accepted offers, and the operations on their resources.
         body: Accept,
     },
     /// DECLINE: declines offers.
     Decline {
-        /// The framework.
+        /// The framework that sends the call.
         framework_id: Id,
-        /// The offers.
+        /// The declined offers.
         body: Decline,
     },
     /// REVIVE: asks for offers again, also of declined resources.
     Revive {
-        /// The framework.
+        /// The framework that sends the call.
         framework_id: Id,
     },
     /// KILL: kills a task.
     Kill {
-        /// The framework.
+        /// The framework that sends the call.
         framework_id: Id,
-        /// The task.
+        /// The task to kill.
         body: Kill,
     },
     /// ACKNOWLEDGE: acknowledges a status update of a task.
     Acknowledge {
-        /// The framework.
+        /// The framework that sends the call.
         framework_id: Id,
-        /// The status update.
+        /// The status update that is acknowledged.
         body: Acknowledge,
     },
     /// RECONCILE: asks for the states of tasks.
     Reconcile {
-        /// The framework.
+        /// The framework that sends the call.
         framework_id: Id,
-        /// The tasks.
+        /// The tasks whose states are asked for.
         body: Reconcile,
     },
     /// TEARDOWN: ends the framework and its tasks.
     Teardown {
-        /// The framework.
+        /// The framework that sends the call.
         framework_id: Id,
     },
     /// SUPPRESS: stops offers until the next REVIVE.
     Suppress {
-        /// The framework.
+        /// The framework that sends the call.
         framework_id: Id,
     },
     /// SHUTDOWN: ends an executor and its tasks.
     Shutdown {
-        /// The framework.
+        /// The framework that sends the call.
         framework_id: Id,
-        /// The executor.
+        /// The executor to shut down.
         body: Shutdown,
     },
     /// MESSAGE: sends bytes to an executor of the framework.
     Message {
-        /// The framework.
+        /// The framework that sends the call.
         framework_id: Id,
         /// The executor and the bytes.
         body: Message,
@@ -124,12 +124,12 @@ impl Call {
     pub fn read_record(alloc: Global, bytes: &[u8]) -> Result<Call, RecordFault>
         // On success: the bytes are a JSON text of the call.
         ensures ok { IfOk result (IsTextOf call bytes.now) }
-        // If the bytes are a JSON text of a call, only a failed allocation can prevent its return.
+        // If the bytes are a JSON text of call c, the result is c, or an allocation failed.
         ensures only { (c : Call) → IsTextOf call bytes.now c
             → MatchResult result (λ r. r ≡ c) (λ e. e ≡ RecordFault.NoMemory) }
 
-        // Each error: the bytes are not a JSON text, or not a call, with the place of the first
-        // fault.
+        // On error: the bytes are not a JSON text or not a call, and the error is the first fault;
+        // or an allocation failed.
         ensures err { IfErr result (IsFaultOf call bytes.now) }
     {
         read_bytes(alloc, bytes)
@@ -144,20 +144,20 @@ impl Call {
         read_part(alloc, json, &Path::new())
     }
 
-    /// Returns the canonical text of the call. It has no white space, its members are in the order
-    /// of the tables, and absent, unset or empty ones are left out. It nests at most `MAX_NESTING`
-    /// deep and has at most `limit` bytes.
+    /// Returns the canonical text of the call: without white space, members in the order of the
+    /// tables, absent values, unset flags and empty lists left out. The text nests at most
+    /// `MAX_NESTING` deep and has at most `limit` bytes.
     pub fn canon(&self, alloc: Global, limit: Limit) -> Result<Vec<u8>, EncodeFault>
-        // On success: the canonical text, which fits the limit and reads back to the same call.
+        // On success: the canonical text, within the limit. It is read back as the same call.
         ensures text { IfOk result (λ text. text.items ≡ canonical_of call self.now) }
         ensures good { IfOk result (λ _. Fits call self.now limit) }
         ensures spells { IfOk result (λ text. IsTextOf call text.items self.now) }
-        // If the call fits, the only error is a failed allocation.
+        // If the call has a canonical text within the limit, the only error is a failed allocation.
         ensures only { Fits call self.now limit
             → MatchResult result (λ text. text.items ≡ canonical_of call self.now) (λ e. e
             ≡ EncodeFault.NoMemory) }
 
-        // Each error: nested too deep, else too large, or an allocation failed.
+        // On error: the call nests too deep, else its text is too large, or an allocation failed.
         ensures err { IfErr result (IsRefusalOf call self.now limit) }
     {
         canonical_bytes(self, alloc, limit)
@@ -422,7 +422,7 @@ impl Part for Call {
     }
 }
 
-/// Reads the framework and the required body `name`.
+/// Reads the member `framework_id`, and the body in the required member `name`.
 fn read_call<T: Part>(
     alloc: Global,
     framework: &Found<'_>,
@@ -442,7 +442,7 @@ fn read_call<T: Part>(
     Ok((framework_id, body))
 }
 
-/// Reads the framework. A body `name` is not supported, so it must be absent or `null`.
+/// Reads the member `framework_id`. The unsupported member `name` must be absent or `null`.
 fn read_bare(
     alloc: Global,
     framework: &Found<'_>,
@@ -483,7 +483,7 @@ fn put_head(
     put(members, alloc, "framework_id", framework_id)
 }
 
-/// Appends the members `type`, `framework_id` and `name`, the body.
+/// Appends the members `type` and `framework_id`, and the member `name` with the body as its value.
 fn put_call<T: Part>(
     members: &mut Vec<(Text, json::Json)>,
     alloc: Global,

@@ -1,4 +1,4 @@
-//! Appends the texts of a call's members, for `call.rt`.
+//! Appends the texts of the members of a call, for `call.rt`.
 
 ghost use Rattle.std.specs.Prelude.{[], ◌∷◌, codes, IfOk, OnOk};
 ghost use Rattle.mes_model_schema.specs.Tree.Tree.{string};
@@ -17,7 +17,8 @@ use mes_model_schema::{
 use mes_msg_call_body::Subscribe;
 use std::alloc::Global;
 
-/// Appends the text of the members of a SUBSCRIBE and returns the nesting depth of the deepest.
+/// Appends the text of the members of a SUBSCRIBE, and returns the greatest nesting depth of their
+/// values.
 #[tactic(auto, using(mes_model_schema::proofs::AppendLemmas::both_members))]
 pub(crate) fn append_subscribe(
     alloc: Global,
@@ -51,7 +52,8 @@ pub(crate) fn append_head(
     write_case_text(alloc, kind, "framework_id", framework_id, out)
 }
 
-/// Appends the text of the members `type`, `framework_id` and `name`, the body.
+/// Appends the text of the members `type` and `framework_id`, and of the member `name` with the
+/// body as its value.
 #[tactic(auto, using(mes_model_schema::proofs::AppendLemmas::both_members))]
 pub(crate) fn append_call<T: Part>(
     alloc: Global,
@@ -72,7 +74,7 @@ pub(crate) fn append_call<T: Part>(
     Ok(deeper(head, rest))
 }
 
-/// Shows that the framework and a body are read back from their trees. Does not allocate.
+/// Shows that the framework id and a body are each read back from their tree. Does not allocate.
 pub(crate) fn call_reads_back<T: Part>(framework_id: &Id, body: &T)
     ensures framework { Returns id framework_id.now }
     ensures back { Returns T.kind body.now }

@@ -18,7 +18,7 @@ use Rattle.mes_msg_call_body.specs.declared.acknowledge.Acknowledge.{Acknowledge
 use Rattle.mes_msg_call_body.specs.declared.reconcile.Reconcile.{Reconcile}
 use Rattle.mes_msg_call_body.specs.declared.shutdown.Shutdown.{Shutdown}
 
--- SUBSCRIBE has framework_info
+-- the members of a SUBSCRIBE body; framework_info: required
 abbrev pub subscribe_layout : Layout Subscribe
 subscribe_layout =
     laid_out (
@@ -37,7 +37,7 @@ pub subscribe_back : (v : Subscribe) → subscribe_layout.rows.table.Back (subsc
 unfolding subscribe
 subscribe_back v back = returns_kind subscribe_layout refl v back
 
--- ACCEPT has the lists offer_ids and operations, and optionally filters
+-- the members of an ACCEPT body; offer_ids, operations: lists; filters: optional
 abbrev pub accept_layout : Layout Accept
 accept_layout =
     laid_out (
@@ -58,7 +58,7 @@ pub accept_back : (v : Accept) → accept_layout.rows.table.Back (accept_layout.
 unfolding accept
 accept_back v back = returns_kind accept_layout refl v back
 
--- DECLINE has the list offer_ids, and optionally filters
+-- the members of a DECLINE body; offer_ids: a list; filters: optional
 abbrev pub decline_layout : Layout Decline
 decline_layout =
     laid_out (
@@ -78,7 +78,7 @@ pub decline_back : (v : Decline) → decline_layout.rows.table.Back (decline_lay
 unfolding decline
 decline_back v back = returns_kind decline_layout refl v back
 
--- KILL has task_id, and optionally agent_id
+-- the members of a KILL body; task_id: required; agent_id: optional
 abbrev pub kill_layout : Layout Kill
 kill_layout =
     laid_out (
@@ -98,7 +98,7 @@ pub kill_back : (v : Kill) → kill_layout.rows.table.Back (kill_layout.from v) 
 unfolding kill
 kill_back v back = returns_kind kill_layout refl v back
 
--- ACKNOWLEDGE has agent_id, task_id and uuid
+-- the members of an ACKNOWLEDGE body; agent_id, task_id, uuid: required
 abbrev pub acknowledge_layout : Layout Acknowledge
 acknowledge_layout =
     laid_out (
@@ -119,7 +119,7 @@ pub acknowledge_back : (v : Acknowledge) → acknowledge_layout.rows.table.Back 
 unfolding acknowledge
 acknowledge_back v back = returns_kind acknowledge_layout refl v back
 
--- RECONCILE has the list tasks
+-- the members of a RECONCILE body; tasks: a list
 abbrev pub reconcile_layout : Layout Reconcile
 reconcile_layout =
     laid_out (
@@ -138,7 +138,7 @@ pub reconcile_back : (v : Reconcile) → reconcile_layout.rows.table.Back (recon
 unfolding reconcile
 reconcile_back v back = returns_kind reconcile_layout refl v back
 
--- SHUTDOWN has executor_id and agent_id
+-- the members of a SHUTDOWN body; executor_id, agent_id: required
 abbrev pub shutdown_layout : Layout Shutdown
 shutdown_layout =
     laid_out (

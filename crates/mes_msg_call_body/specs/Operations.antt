@@ -14,7 +14,7 @@ use Rattle.mes_model.specs.TaskInfo.{TaskInfo}
 use Rattle.mes_msg_call_body.specs.declared.operation.Operation.{Operation}
 use Rattle.mes_msg_call_body.specs.declared.operation.Operation.TheVariants as of
 
--- LAUNCH has the list task_infos
+-- the members of a LAUNCH body; task_infos: a list
 abbrev pub launch_layout : Layout (List TaskInfo)
 launch_layout =
     laid_out (
@@ -33,7 +33,7 @@ pub launch_back : (v : List TaskInfo) → launch_layout.rows.table.Back (launch_
 unfolding launch
 launch_back v back = returns_kind launch_layout refl v back
 
--- an operation, from the fields of its type
+-- an operation, from the value of its body
 abbrev pub to_operation : List TaskInfo ⊎ ⊥ → Operation
 to_operation (inl tasks) = of.Launch tasks
 to_operation (inr v) = absurd v
@@ -41,7 +41,7 @@ to_operation (inr v) = absurd v
 abbrev pub from_operation : Operation → List TaskInfo ⊎ ⊥
 from_operation (of.Launch tasks) = inl tasks
 
--- an operation has type and, for LAUNCH, launch; other types are refused
+-- the members of an operation; type: required; launch: required for LAUNCH; another type is a fault
 abbrev pub operation_rows : Table Operation
 operation_rows =
     mapped (typed (
@@ -50,14 +50,14 @@ operation_rows =
     )
     )) to_operation from_operation
 
--- the names of an operation's members
+-- the names of the members of an operation
 abbrev pub operation_members : List (List ℕ)
 operation_members = codes "type" ∷ codes "launch" ∷ []
 
 unfoldable pub operation : Kind Operation
 operation = message operation_rows
 
--- ---- their laws
+-- ---- the laws of the kind of operations
 
 to_from_operation : (v : Operation) → to_operation (from_operation v) ≡ v
 to_from_operation (of.Launch tasks) = refl

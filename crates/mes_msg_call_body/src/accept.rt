@@ -1,4 +1,4 @@
-//! The body of ACCEPT, with the rows of its table.
+//! The body of an ACCEPT call, and the table of its members: one row for each member.
 
 use crate::operation::Operation;
 use mes_model::{Filters, Id};
@@ -14,9 +14,9 @@ use std::alloc::Global;
 pub struct Accept {
     /// The accepted offers.
     pub offer_ids: List<Id>,
-    /// The operations on their resources, in order.
+    /// The operations on the resources of the offers, in order.
     pub operations: List<Operation>,
-    /// When unused resources of the offers may be offered again.
+    /// The filters on later offers: when unused resources of the offers may be offered again.
     pub filters: Option<Filters>,
 }
 

@@ -1,4 +1,4 @@
-//! The body of ACKNOWLEDGE, with the rows of its table.
+//! The body of an ACKNOWLEDGE call, and the table of its members: one row for each member.
 
 use mes_model::Id;
 use mes_model_schema::back::message_reads_back;
@@ -14,7 +14,7 @@ use std::alloc::Global;
 pub struct Acknowledge {
     /// The agent that sent the status update.
     pub agent_id: Id,
-    /// The task.
+    /// The task of the status update.
     pub task_id: Id,
     /// The unique identifier of the status update.
     pub uuid: Bytes,

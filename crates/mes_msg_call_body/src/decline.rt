@@ -1,4 +1,4 @@
-//! The body of DECLINE, with the rows of its table.
+//! The body of a DECLINE call, and the table of its members: one row for each member.
 
 use mes_model::{Filters, Id};
 use mes_model_schema::back::message_reads_back;
@@ -14,7 +14,7 @@ use std::alloc::Global;
 pub struct Decline {
     /// The declined offers.
     pub offer_ids: List<Id>,
-    /// When their resources may be offered again.
+    /// The filters on later offers: when the declined resources may be offered again.
     pub filters: Option<Filters>,
 }
 

@@ -1,4 +1,4 @@
-//! The body of KILL, with the rows of its table.
+//! The body of a KILL call, and the table of its members: one row for each member.
 
 use mes_model::Id;
 use mes_model_schema::back::message_reads_back;
@@ -14,7 +14,7 @@ use std::alloc::Global;
 pub struct Kill {
     /// The task to kill.
     pub task_id: Id,
-    /// The task's agent, if known.
+    /// The agent of the task, if it is known.
     pub agent_id: Option<Id>,
 }
 

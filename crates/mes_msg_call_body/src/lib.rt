@@ -1,11 +1,12 @@
 #![tactic(auto)]
 //! The bodies of the calls of the Apache Mesos v1 scheduler API in JSON.
 //!
-//! - a file for each body, except MESSAGE (crate `mes_msg_record`).
+//! - `subscribe`, `accept`, `decline`, `kill`, `acknowledge`, `reconcile`, `shutdown`: one body
+//!   each. The body of MESSAGE is in the crate `mes_msg_record`.
 //! - `operation`: the operations of ACCEPT; LAUNCH is the only one that is supported.
 //!
 //! Each body is read from a token tape, copied, and written as a JSON tree or as text. The crate
-//! `mes_msg_call` reads whole calls.
+//! `mes_msg_call` reads calls.
 //!
 //!     let body = Kill::read_from(alloc, &tape.root(), &PathBuilder::new())?;
 //!

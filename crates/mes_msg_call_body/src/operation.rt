@@ -1,4 +1,4 @@
-//! The operations on accepted offers. They are part of ACCEPT (`accept.rt`).
+//! The operations on accepted offers, which are part of the body of ACCEPT (`accept.rt`).
 ghost use Rattle.std.specs.Prelude.{◌≡◌, IfOk, OnOk};
 ghost use Rattle.mes_model_schema.specs.View.{view};
 ghost use Rattle.mes_model_schema.specs.Appended.{Appends, AppendsMembers};
@@ -17,13 +17,13 @@ use mes_model_schema::{
 use std::alloc::Global;
 use std::marker::Model;
 
-/// An operation on accepted offers (mesos.proto, `Offer.Operation`). A type other than LAUNCH is
-/// refused as `LeftOut`.
+/// An operation on accepted offers (mesos.proto, `Offer.Operation`). Reading a type other than
+/// LAUNCH returns the fault `LeftOut`.
 #[derive(Debug, Drop)]
 pub enum Operation {
     /// LAUNCH: launches tasks on the resources of the offers.
     Launch {
-        /// The tasks.
+        /// The tasks to launch.
         task_infos: List<TaskInfo>,
     },
 }
@@ -135,7 +135,7 @@ impl Part for Operation {
     }
 }
 
-/// The body of LAUNCH. In contracts its value is the list of tasks.
+/// The body of a LAUNCH operation. In contracts its value is the list of tasks.
 #[derive(Debug, Drop)]
 struct Launch {
     task_infos: List<TaskInfo>,
@@ -217,14 +217,14 @@ impl Part for Launch {
 #[tactic(auto, using(crate::specs::Operations::launch_back), unfolding(crate::specs::Operations::launch))]
 fn launch_tree(alloc: Global, task_infos: &List<TaskInfo>) -> Result<json::Json, NoMemory>
     ensures tree { IfOk result (λ t. view t ≡ launch.tree task_infos.now) }
-    // On success: the tree reads back to the same tasks.
+    // On success: the tree is read back as the same tasks.
     ensures back { OnOk result (Returns launch task_infos.now) }
 {
     message_tree(alloc, &LAUNCH_NAMES, &pairs!(task_infos))
 }
 
-/// Appends the text of the members `type` and `launch`, and returns the nesting depth of the
-/// deeper.
+/// Appends the text of the members `type` and `launch`, and returns the greater nesting depth of
+/// their values.
 #[tactic(auto, using(mes_model_schema::proofs::AppendLemmas::both_members))]
 fn append_launch(
     alloc: Global,
@@ -250,7 +250,7 @@ fn launch_text(
 ) -> Result<u64, NoMemory>
     ensures text { IfOk result (λ deep. Appends out.old.items (launch.tree task_infos.now)
         out.new.items deep) }
-    // On success: the text reads back to the same tasks.
+    // On success: the text is read back as the same tasks.
     ensures back { OnOk result (Returns launch task_infos.now) }
 {
     message_text(alloc, &LAUNCH_NAMES, &pairs!(task_infos), out)

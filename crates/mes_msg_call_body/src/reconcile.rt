@@ -1,4 +1,4 @@
-//! The body of RECONCILE, with the rows of its table.
+//! The body of a RECONCILE call, and the table of its members: one row for each member.
 
 use mes_model::TaskRef;
 use mes_model_schema::back::message_reads_back;

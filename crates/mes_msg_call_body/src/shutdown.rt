@@ -1,4 +1,4 @@
-//! The body of SHUTDOWN, with the rows of its table.
+//! The body of a SHUTDOWN call, and the table of its members: one row for each member.
 
 use mes_model::Id;
 use mes_model_schema::back::message_reads_back;
@@ -14,7 +14,7 @@ use std::alloc::Global;
 pub struct Shutdown {
     /// The executor to shut down.
     pub executor_id: Id,
-    /// The executor's agent.
+    /// The agent of the executor.
     pub agent_id: Id,
 }
 

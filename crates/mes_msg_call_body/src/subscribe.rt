@@ -1,4 +1,4 @@
-//! The body of SUBSCRIBE, with the rows of its table. Each other body has a file of its own.
+//! The body of a SUBSCRIBE call, and the table of its members: one row for each member.
 
 use mes_model::FrameworkInfo;
 use mes_model_schema::back::message_reads_back;

@@ -1,4 +1,4 @@
--- The fault of a record.
+-- Lemmas: the fault of the bytes of a record.
 use Rattle.std.proofs.Common.{◌≡◌, ℕ, List, []}
 use Rattle.std.specs.Prelude.{Err}
 use Rattle.mes_model_schema.specs.Tree.{Tree}

@@ -1,4 +1,4 @@
--- Consecutive words of a line.
+-- Lemmas: consecutive words are appended to a line.
 use Rattle.std.specs.Prelude.{◌≡◌, ℕ, List, [], ◌∷◌, ◌++◌, codes, Result, Ok, Err, IfOk}
 use Rattle.std.proofs.Common.{append_assoc, append-nil, refl}
 use Rattle.mes_msg_event.specs.ShowLines.{spaced}

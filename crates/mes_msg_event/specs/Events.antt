@@ -23,7 +23,7 @@ use Rattle.mes_msg_record.specs.declared.record.RecordFault.{RecordFault}
 use Rattle.mes_msg_event_body.specs.EventNames.{event_names}
 use Rattle.mes_msg_record.specs.Texts.{IsTextOf, IsFaultOf}
 
--- the body of an event, by its type
+-- the body of an event: one alternative for each type
 abbrev pub Body : Type 0
 Body = Subscribed ⊎ List Offer ⊎ Rescind ⊎ Update ⊎ Message ⊎ Failure ⊎ ErrorBody ⊎ Unit {0} ⊎ List ℕ
 
@@ -49,7 +49,8 @@ from_event (of.Error v) = inr (inr (inr (inr (inr (inr (inl v))))))
 from_event of.Heartbeat = inr (inr (inr (inr (inr (inr (inr (inl tt)))))))
 from_event (of.Other name) = inr (inr (inr (inr (inr (inr (inr (inr name)))))))
 
--- an event has type and the body of that type; of another type only the name is read
+-- the members of an event; type: required, with the body of that type; of another type only the
+-- name is read
 abbrev pub event_rows : Table Event
 event_rows =
     mapped (typed (
@@ -80,17 +81,17 @@ event_members =
 unfoldable pub event : Kind Event
 event = message event_rows
 
--- ---- an event in the bytes of a record
+-- ---- the event or the fault of the bytes of a record
 
 -- the bytes are a JSON text of the event
 abbrev pub Spells : List ℕ → Event → Type 0
 Spells b ev = IsTextOf event b ev
 
--- the fault of bytes that are not an event; a failed allocation states nothing about them
+-- the fault of bytes that are not an event; `NoMemory` states nothing about the bytes
 abbrev pub IsRecordFault : List ℕ → RecordFault → Type 0
 IsRecordFault b f = IsFaultOf event b f
 
--- ---- the laws
+-- ---- the laws of the kind of events
 
 to_from_event : (v : Event) → to_event (from_event v) ≡ v
 to_from_event (of.Subscribed v) = refl

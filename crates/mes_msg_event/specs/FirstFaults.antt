@@ -1,4 +1,4 @@
--- The first fault of an event, in the order of its table.
+-- The first fault of an event, member by member in the order of its table.
 use Rattle.std.specs.Prelude.{codes}
 use Rattle.mes_model_schema.specs.FirstFaults.{NeedBreaks}
 use Rattle.mes_model_schema.specs.FirstRows.{OfRows, NoRows, TypeThen, AnyType, ByType}
@@ -6,7 +6,8 @@ use Rattle.mes_msg_event_body.specs.Bodies.{subscribed, rescind, update, failure
 use Rattle.mes_msg_event_body.specs.Offers.{offers}
 use Rattle.mes_msg_record.specs.Messages.{message_body}
 
--- an event has type and the body of that type; another type has no further fault
+-- the first fault of the members; type: required, with the body of that type; an event of another
+-- type has no further fault
 abbrev pub OfEvent : OfRows
 OfEvent =
     ByType (

@@ -30,17 +30,17 @@ pub enum Event {
     Offers(List<Offer>),
     /// RESCIND: an offer is no longer valid.
     Rescind(Rescind),
-    /// UPDATE: the state of a task.
+    /// UPDATE: the status of a task.
     Update(Update),
     /// MESSAGE: bytes from an executor to the framework.
     Message(Message),
     /// FAILURE: an agent or an executor is lost.
     Failure(Failure),
-    /// ERROR: the master refuses the framework and gives a reason.
+    /// ERROR: the master no longer serves the framework and gives a reason.
     Error(ErrorBody),
     /// HEARTBEAT: the connection is alive.
     Heartbeat,
-    /// An event of any other type. Its body is dropped.
+    /// An event of any other type. Its name is retained, its body is ignored.
     Other(OtherName),
 }
 
@@ -204,7 +204,7 @@ impl Part for Event {
     }
 }
 
-/// Appends the members `type` and `name`, the body.
+/// Appends the member `type`, and the member `name` with the body as its value.
 fn put_body<T: Part>(
     members: &mut Vec<(Text, json::Json)>,
     alloc: Global,
@@ -242,8 +242,8 @@ fn put_offers(
     Ok(())
 }
 
-/// Appends the text of the members `type` and `offers`, and returns the nesting depth of the
-/// deeper.
+/// Appends the text of the members `type` and `offers`, and returns the greater nesting depth of
+/// their values.
 #[tactic(auto, using(mes_model_schema::proofs::AppendLemmas::both_members))]
 fn append_offers(alloc: Global, list: &List<Offer>, out: &mut Vec<u8>) -> Result<u64, NoMemory>
     ensures members { IfOk result (λ deep. AppendsMembers out.old.items

@@ -1,4 +1,4 @@
-//! Which fault of an event is the first.
+//! The law, stated as the contract of an empty function, about the first fault of an event.
 
 ghost use Rattle.std.specs.Prelude.{◌↔◌, List};
 ghost use Rattle.mes_model_schema.specs.Tree.{Tree};
@@ -9,10 +9,10 @@ ghost use Rattle.mes_model_schema.specs.declared.field.FieldFault.{FieldFault};
 ghost use Rattle.mes_msg_event.specs.Events.{event};
 ghost use Rattle.mes_msg_event.specs.FirstFaults.{OfEvent};
 
-/// Proves that the first fault of an event is one of three. The value is not an object, its member
-/// `type` has a fault, or the body of its type has one.
+/// Proves that the first fault of an event is one of three: the JSON value is not an object, its
+/// member `type` has a fault, or the member with the body of that type has a fault.
 pub fn event_breaks()
-    // A tree at a path has a fault if and only if it is the first in the order of the table.
+    // A tree at a path has first fault f, if and only if f is the first in the order of the table.
     ensures { (at : List Place) (t : Tree) (f : FieldFault)
         → Breaks event at t f ↔ OfMessage OfEvent at t f }
 {}

@@ -1,5 +1,4 @@
-//! The fields of a printed line of an event (`show.rt`) or of a report: each is appended after a
-//! space.
+//! Appends the fields of a printed line of an event (`show.rt`) or of a report, each after a space.
 
 ghost use Rattle.std.specs.Prelude.{◌≡◌, ◌++◌, codes, decimal, IfOk};
 ghost use Rattle.std.specs.Fmt.{signed_decimal};
@@ -14,7 +13,7 @@ use mes_model_schema::fixed::Micros;
 use mes_model_schema::json::{NoMemory, hex_digit, write_str};
 use uuid::Uuid;
 
-/// Appends a space and a plain word.
+/// Appends a space and a word, without quotation marks.
 pub fn put_word(word: &str, line: &mut Vec<u8>) -> Result<(), NoMemory>
     ensures { IfOk result (λ _. line.new.items ≡ line.old.items ++ (codes " " ++ word.now)) }
 {
@@ -95,10 +94,10 @@ pub(crate) fn put_some_uuid(uuid: &Option<Bytes>, line: &mut Vec<u8>) -> Result<
     }
 }
 
-/// Appends a space and a UUID. 16 bytes have the hyphenated form; any other number of bytes is
-/// `hex:` and two digits a byte.
+/// Appends a space and a UUID. 16 bytes are printed in the hyphenated form, any other number of
+/// bytes as `hex:` and two hexadecimal digits for each byte.
 pub fn put_uuid(bytes: &[u8], line: &mut Vec<u8>) -> Result<(), NoMemory>
-    // On success: the hyphenated form of 16 bytes, else hexadecimal digits.
+    // On success: a space and the text of the UUID are appended to the line.
     ensures { IfOk result (λ _. line.new.items
         ≡ line.old.items ++ (codes " " ++ uuid_text bytes.now)) }
 {

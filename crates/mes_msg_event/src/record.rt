@@ -1,4 +1,4 @@
-//! Reading an event from the bytes of a record, and its canonical text.
+//! Reads an event from the bytes of a record, and writes its canonical text.
 ghost use Rattle.std.specs.Prelude.{◌≡◌, [], Ok, IfOk, IfErr, MatchResult};
 ghost use Rattle.mes_model_schema.specs.View.{view};
 ghost use Rattle.mes_model_schema.specs.Parts.{Gives, IsFirstFault};
@@ -16,13 +16,12 @@ impl Event {
     pub fn read_record(alloc: Global, bytes: &[u8]) -> Result<Event, RecordFault>
         // On success: the bytes are a JSON text of the event.
         ensures ok { IfOk result (Spells bytes.now) }
-        // If the bytes are a JSON text of an event, only a failed allocation can prevent its
-        // return.
+        // If the bytes are a JSON text of event ev, the result is ev, or an allocation failed.
         ensures only { (ev : Event) → Spells bytes.now ev
             → MatchResult result (λ e. e ≡ ev) (λ e. e ≡ RecordFault.NoMemory) }
 
-        // Each error: the bytes are not a JSON text, or not an event, with the place of the first
-        // fault.
+        // On error: the bytes are not a JSON text or not an event, and the error is the first
+        // fault; or an allocation failed.
         ensures err { IfErr result (IsRecordFault bytes.now) }
     {
         read_bytes(alloc, bytes)
@@ -37,20 +36,23 @@ impl Event {
         read_part(alloc, json, &Path::new())
     }
 
-    /// Returns the canonical text of the event. It has no white space, its members are in the order
-    /// of the tables, and absent, unset or empty ones are left out. It nests at most `MAX_NESTING`
-    /// deep and has at most `limit` bytes.
+    /// Returns the canonical text of the event. The text has no white space, and its members are in
+    /// the order of the tables. Absent values, unset flags and empty lists are left out. The text
+    /// nests at most `MAX_NESTING` deep and has at most `limit` bytes.
     pub fn canon(&self, alloc: Global, limit: Limit) -> Result<Vec<u8>, EncodeFault>
-        // On success: the canonical text, which fits the limit and reads back to the same event.
+        // On success: the result is the canonical text of the event, within the limit. It is read
+        // back as the same event.
         ensures text { IfOk result (λ text. text.items ≡ canonical_text self.now) }
         ensures good { IfOk result (λ _. IsGood self.now limit) }
         ensures spells { IfOk result (λ text. Spells text.items self.now) }
-        // If the event fits, the only error is a failed allocation.
+        // If the event has a canonical text within the limit, the only error is a failed
+        // allocation.
         ensures only { IsGood self.now limit
             → MatchResult result (λ text. text.items ≡ canonical_text self.now) (λ e. e
             ≡ EncodeFault.NoMemory) }
 
-        // Each error: nested too deep, else too large, or an allocation failed.
+        // On error: the event nests too deep; or it does not, and its text is too large; or an
+        // allocation failed.
         ensures err { IfErr result (IsEncodeFault self.now limit) }
     {
         canonical_bytes(self, alloc, limit)

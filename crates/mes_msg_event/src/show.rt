@@ -1,4 +1,4 @@
-//! The printed lines of an event. `line_fields.rt` writes their fields.
+//! Prints an event as lines. `line_fields.rt` writes the fields of a line.
 
 ghost use Rattle.std.specs.Prelude.{◌≡◌, ◌++◌, IfOk};
 ghost use Rattle.std.specs.List.{flat_map};

@@ -1,4 +1,4 @@
--- The names of event types.
+-- Lemma: a name that differs from the eight known types of events is the type of another event.
 use Rattle.std.proofs.Common.{◌≢◌, ℕ, List, refl, sym}
 use Rattle.std.specs.Prelude.{codes}
 use Rattle.mes_model_schema.specs.NameLaws.{names_differ}

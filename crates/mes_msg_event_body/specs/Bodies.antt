@@ -15,7 +15,8 @@ use Rattle.mes_msg_event_body.specs.declared.update.Update.{Update}
 use Rattle.mes_msg_event_body.specs.declared.failure.Failure.{Failure}
 use Rattle.mes_msg_event_body.specs.declared.error_body.ErrorBody.{ErrorBody}
 
--- SUBSCRIBED has framework_id, and optionally heartbeat_interval_seconds (in millionths)
+-- the members of a SUBSCRIBED body; framework_id: required; heartbeat_interval_seconds: optional,
+-- rounded to millionths
 abbrev pub subscribed_layout : Layout Subscribed
 subscribed_layout =
     laid_out (
@@ -35,7 +36,7 @@ pub subscribed_back : (v : Subscribed) → subscribed_layout.rows.table.Back (su
 unfolding subscribed
 subscribed_back v back = returns_kind subscribed_layout refl v back
 
--- RESCIND has offer_id
+-- the members of a RESCIND body; offer_id: required
 abbrev pub rescind_layout : Layout Rescind
 rescind_layout =
     laid_out (
@@ -54,7 +55,7 @@ pub rescind_back : (v : Rescind) → rescind_layout.rows.table.Back (rescind_lay
 unfolding rescind
 rescind_back v back = returns_kind rescind_layout refl v back
 
--- UPDATE has status
+-- the members of an UPDATE body; status: required
 abbrev pub update_layout : Layout Update
 update_layout =
     laid_out (
@@ -73,7 +74,7 @@ pub update_back : (v : Update) → update_layout.rows.table.Back (update_layout.
 unfolding update
 update_back v back = returns_kind update_layout refl v back
 
--- FAILURE has optionally agent_id, executor_id and status
+-- the members of a FAILURE body; agent_id, executor_id, status: optional
 abbrev pub failure_layout : Layout Failure
 failure_layout =
     laid_out (
@@ -94,7 +95,7 @@ pub failure_back : (v : Failure) → failure_layout.rows.table.Back (failure_lay
 unfolding failure
 failure_back v back = returns_kind failure_layout refl v back
 
--- ERROR has message
+-- the members of an ERROR body; message: required
 abbrev pub error_body_layout : Layout ErrorBody
 error_body_layout =
     laid_out (

@@ -1,4 +1,5 @@
--- The body of OFFERS: an object with the offers, or the list alone. It is written as the object.
+-- The body of OFFERS: an object with the array of offers as the member `offers`, or the array
+-- alone. It is written as the object.
 use Rattle.std.specs.Prelude.{List, codes}
 use Rattle.mes_model_schema.specs.Kinds.{Kind, Lawful, Returns}
 use Rattle.mes_model_schema.specs.Rows.{ReturnsEach}
@@ -7,11 +8,11 @@ use Rattle.mes_model_schema.specs.EitherListLaws.{lawful_either_list, either_lis
 use Rattle.mes_model_offer.specs.Offers.{offer, lawful_offer}
 use Rattle.mes_model_offer.specs.declared.offer.Offer.{Offer}
 
--- OFFERS has the list offers
+-- the kind of OFFERS bodies
 unfoldable pub offers : Kind (List Offer)
 offers = either_list (codes "offers") offer
 
--- ---- its laws
+-- ---- the laws of the kind of OFFERS bodies
 
 pub lawful_offers : Lawful offers 10
 unfolding offers

@@ -1,4 +1,4 @@
-//! The body of ERROR, with the rows of its table.
+//! The body of an ERROR event, and the table of its members: one row for each member.
 
 use mes_model_schema::back::message_reads_back;
 use mes_model_schema::json::{self, Element, NoMemory, Text};
@@ -11,7 +11,7 @@ use std::alloc::Global;
 /// The body of ERROR (`Event.Error`): the master no longer serves the framework.
 #[derive(Debug, Drop)]
 pub struct ErrorBody {
-    /// The reason.
+    /// The reason that the master gives.
     pub message: Text,
 }
 

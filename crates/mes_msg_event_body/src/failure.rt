@@ -1,4 +1,4 @@
-//! The body of FAILURE, with the rows of its table.
+//! The body of a FAILURE event, and the table of its members: one row for each member.
 
 use mes_model_resource::Id;
 use mes_model_schema::back::message_reads_back;
@@ -12,11 +12,11 @@ use std::alloc::Global;
 /// The body of FAILURE (`Event.Failure`): an agent or an executor is lost.
 #[derive(Debug, Drop)]
 pub struct Failure {
-    /// The agent.
+    /// The agent that is lost, or the agent of the lost executor.
     pub agent_id: Option<Id>,
-    /// The executor, if only the executor is lost.
+    /// The lost executor, if only an executor is lost.
     pub executor_id: Option<Id>,
-    /// The exit status of the executor.
+    /// The exit status of the lost executor.
     pub status: Option<i32>,
 }
 

@@ -1,12 +1,11 @@
 #![tactic(auto)]
 //! The bodies of the events of the Apache Mesos v1 scheduler API in JSON.
 //!
-//! - `subscribed`, `rescind`, `update`, `failure`, `error_body`: the body of that name.
-//! - `offers`: OFFERS.
+//! - `subscribed`, `offers`, `rescind`, `update`, `failure`, `error_body`: one body each.
 //! - `other_name`: the name of an event type whose body is not read.
 //!
 //! Each body is read from a token tape, copied, and written as a JSON tree or as text. The crate
-//! `mes_msg_event` reads whole events; the body of MESSAGE is in `mes_msg_record`.
+//! `mes_msg_event` reads events; the body of MESSAGE is in `mes_msg_record`.
 //!
 //!     let body = Subscribed::read_from(alloc, &tape.root(), &PathBuilder::new())?;
 //!

@@ -1,4 +1,4 @@
-//! The body of OFFERS. Each other body has a file of its own beside this one.
+//! The body of an OFFERS event, in the object form or as the array alone.
 ghost use Rattle.std.specs.Prelude.{◌≡◌, IfOk, OnOk};
 ghost use Rattle.mes_model_schema.specs.View.{view};
 ghost use Rattle.mes_model_schema.specs.Appended.{Appends};
@@ -15,8 +15,8 @@ use mes_model_schema::{
 use std::alloc::Global;
 use std::marker::Model;
 
-/// The body of OFFERS: an object with the member `offers`, or the list alone. In contracts its
-/// value is the list.
+/// The body of OFFERS (`Event.Offers`): an object with the array as the member `offers`, or the
+/// array alone. In contracts its value is the list of offers.
 #[derive(Debug, Drop)]
 pub struct Offers {
     offers: List<Offer>,
@@ -87,7 +87,7 @@ impl Part for Offers {
 #[tactic(auto, using(crate::specs::Offers::offers_back), unfolding(crate::specs::Offers::offers))]
 pub fn offers_tree(alloc: Global, list: &List<Offer>) -> Result<json::Json, NoMemory>
     ensures tree { IfOk result (λ t. view t ≡ offers.tree list.now) }
-    // On success: the tree reads back to the same offers.
+    // On success: the tree is read back as the same offers.
     ensures back { OnOk result (Returns offers list.now) }
 {
     let mut members = Vec::new(alloc);
@@ -95,13 +95,13 @@ pub fn offers_tree(alloc: Global, list: &List<Offer>) -> Result<json::Json, NoMe
     Ok(whole_object(members))
 }
 
-/// Appends the text of the body of OFFERS and returns its nesting depth.
+/// Appends the text of the body of OFFERS, in the object form, and returns its nesting depth.
 #[tactic(auto, using(crate::specs::Offers::offers_back), unfolding(crate::specs::Offers::offers))]
 pub fn offers_text(alloc: Global, list: &List<Offer>, out: &mut Vec<u8>) -> Result<u64, NoMemory>
     // On success: the text of the tree is appended, and the depth is returned.
     ensures text { IfOk result (λ deep. Appends out.old.items (offers.tree list.now) out.new.items
         deep) }
-    // On success: the text reads back to the same offers.
+    // On success: the text is read back as the same offers.
     ensures back { OnOk result (Returns offers list.now) }
 {
     let start = out.len();

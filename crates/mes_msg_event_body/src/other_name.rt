@@ -7,8 +7,8 @@ use mes_model_schema::json::{NoMemory, Text};
 use std::alloc::Global;
 use std::marker::Model;
 
-/// The type of an event whose body is dropped: any text except the eight types that are read. In
-/// contracts its value is its bytes.
+/// The type of an event whose body is ignored: any text but the eight known types of events. In
+/// contracts its value is the bytes of the text.
 #[derive(Debug, Drop)]
 pub struct OtherName {
     name: Text,
@@ -26,8 +26,8 @@ impl Model for OtherName {
 }
 
 impl OtherName {
-    /// Returns the name, or the text unchanged if it is one of the eight types that are read. Does
-    /// not allocate.
+    /// Returns the name, or the text as the error if it is one of the eight known types of events.
+    /// Does not allocate.
     pub fn new(name: Text) -> Result<OtherName, Text>
         ensures ok { IfOk result (λ other. (other ≡ name) × IsOther name) }
         ensures err { IfErr result (λ again. (again ≡ name) × (IsOther name → ⊥)) }
@@ -39,7 +39,7 @@ impl OtherName {
         }
     }
 
-    /// Copies the name of an event type, which must not be one of the eight types that are read.
+    /// Copies the name of an event type, which must not be one of the eight known types.
     pub fn of_type(alloc: Global, name: &str) -> Result<OtherName, NoMemory>
         requires { IsOther name.now }
         ensures { IfOk result (λ other. other ≡ name.now) }
@@ -64,7 +64,7 @@ impl OtherName {
         self.name.as_str()
     }
 
-    /// Returns the name in its own memory, without a copy.
+    /// Returns the text of the name, without a copy.
     pub fn into_text(self) -> Text
         ensures { result ≡ self }
     {
@@ -81,7 +81,7 @@ impl OtherName {
     }
 }
 
-/// Returns whether events of this type are read with their bodies.
+/// Returns whether the name is one of the eight known types of events.
 fn is_read(name: &str) -> bool
     ensures { result ≡ is_in name.now event_names }
 {

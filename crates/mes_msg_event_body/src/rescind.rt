@@ -1,4 +1,4 @@
-//! The body of RESCIND, with the rows of its table.
+//! The body of a RESCIND event, and the table of its members: one row for each member.
 
 use mes_model_resource::Id;
 use mes_model_schema::back::message_reads_back;
@@ -12,7 +12,7 @@ use std::alloc::Global;
 /// The body of RESCIND (`Event.Rescind`): an offer is no longer valid.
 #[derive(Debug, Drop)]
 pub struct Rescind {
-    /// The offer.
+    /// The offer that is no longer valid.
     pub offer_id: Id,
 }
 

@@ -1,4 +1,4 @@
-//! The body of SUBSCRIBED, with the rows of its table.
+//! The body of a SUBSCRIBED event, and the table of its members: one row for each member.
 
 use mes_model_resource::Id;
 use mes_model_schema::back::message_reads_back;
@@ -13,7 +13,7 @@ use std::alloc::Global;
 /// The body of SUBSCRIBED (scheduler.proto, `Event.Subscribed`): the framework is subscribed.
 #[derive(Debug, Drop)]
 pub struct Subscribed {
-    /// The framework's identifier.
+    /// The identifier of the framework.
     pub framework_id: Id,
     /// The master's interval between two heartbeats, in seconds with six decimal places.
     pub heartbeat_interval_seconds: Option<Micros>,

@@ -1,4 +1,4 @@
-//! The body of UPDATE, with the rows of its table.
+//! The body of an UPDATE event, and the table of its members: one row for each member.
 
 use mes_model_schema::back::message_reads_back;
 use mes_model_schema::json::{self, Element, NoMemory};
@@ -12,7 +12,7 @@ use std::alloc::Global;
 /// The body of UPDATE (`Event.Update`): the state of a task.
 #[derive(Debug, Drop)]
 pub struct Update {
-    /// The state and its details. They are boxed, so that an event is small.
+    /// The status of the task, boxed so that an `Event` is small.
     pub status: Boxed<TaskStatus>,
 }
 

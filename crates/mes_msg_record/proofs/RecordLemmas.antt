@@ -1,4 +1,4 @@
--- The value of a JSON text.
+-- Lemmas: the value or the fault of bytes, from the result of reading the tree of their JSON text.
 use Rattle.std.proofs.Common.{◌≡◌, ℕ, List, [], refl, sym, ◌∙◌, append-nil, subst}
 use Rattle.std.specs.Prelude.{Ok, Err}
 use Rattle.mes_model_schema.specs.Tree.{Tree}

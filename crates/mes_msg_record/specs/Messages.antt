@@ -8,7 +8,7 @@ use Rattle.mes_model_schema.specs.Layouts.{Layout, needs, no_more, ◌⨾⨾◌,
 use Rattle.mes_model_resource.specs.Ids.{id, lawful_id}
 use Rattle.mes_msg_record.specs.declared.message.Message.{Message}
 
--- MESSAGE has agent_id, executor_id and data
+-- the members of a MESSAGE body; agent_id, executor_id, data: required
 abbrev pub message_body_layout : Layout Message
 message_body_layout =
     laid_out (

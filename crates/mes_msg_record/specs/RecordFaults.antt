@@ -1,4 +1,4 @@
--- The fault of a record, from the fault of its text or of its fields.
+-- The fault of the bytes of a record, from the fault of the JSON text or of the members.
 use Rattle.mes_model_schema.specs.ReadFault.{ReadFault}
 use Rattle.mes_model_schema.specs.ReadFault.TheVariants as read
 use Rattle.mes_model_schema.specs.declared.part.PartFault.{PartFault}

@@ -1,4 +1,4 @@
-//! The canonical text of a value. `record.rt` reads one back.
+//! Writes the canonical text of an event or a call. `record.rt` reads such a text.
 ghost use Rattle.std.specs.Prelude.{◌≡◌, IfOk, IfErr, OnOk, MatchResult};
 ghost use Rattle.mes_msg_record.specs.Texts.{IsTextOf, canonical_of, Fits, IsRefusalOf};
 
@@ -39,7 +39,7 @@ pub fn canonical_bytes<T: Part>(
     ensures text { IfOk result (λ text. text.items ≡ canonical_of T.kind value.now) }
     ensures fits { IfOk result (λ _. Fits T.kind value.now limit) }
     ensures again { IfOk result (λ text. IsTextOf T.kind text.items value.now) }
-    // If the value fits, the only error is a failed allocation.
+    // If the value has a canonical text within the limit, the only error is a failed allocation.
     ensures only { Fits T.kind value.now limit
         → MatchResult result (λ text. text.items ≡ canonical_of T.kind value.now) (λ e. e
         ≡ EncodeFault.NoMemory) }
@@ -61,7 +61,7 @@ pub fn canonical_into<T: Part>(
     ensures text { OnOk result (text.new.items ≡ canonical_of T.kind value.now) }
     ensures fits { OnOk result (Fits T.kind value.now limit) }
     ensures again { OnOk result (IsTextOf T.kind text.new.items value.now) }
-    // If the value fits, the only error is a failed allocation.
+    // If the value has a canonical text within the limit, the only error is a failed allocation.
     ensures only { Fits T.kind value.now limit
         → MatchResult result (λ _. text.new.items ≡ canonical_of T.kind value.now) (λ e. e
         ≡ EncodeFault.NoMemory) }

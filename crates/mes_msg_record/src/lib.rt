@@ -1,8 +1,9 @@
 #![tactic(auto)]
-//! What the events and calls of the Apache Mesos v1 scheduler API have in common.
+//! The code that the events and the calls of the Apache Mesos v1 scheduler API share.
 //!
-//! - `record`: reads a value from the bytes of a record.
-//! - `canon`: writes the canonical text of a value, or returns the reason for which there is none.
+//! - `record`: reads an event or a call from the bytes of a record.
+//! - `canon`: writes the canonical text of an event or a call, or returns the reason for which it
+//!   has none.
 //! - `message`: the body of MESSAGE, which is both an event and a call.
 //!
 //!     let event: Event = read_bytes(alloc, bytes)?;

@@ -1,4 +1,4 @@
-//! The body of MESSAGE, as an event and as a call. The table is in specs/Messages.antt.
+//! The body of a MESSAGE event or call. The table of its members is in specs/Messages.antt.
 
 use mes_model_resource::Id;
 use mes_model_schema::back::message_reads_back;
@@ -13,9 +13,9 @@ use std::alloc::Global;
 /// to an executor (`Call.Message`).
 #[derive(Debug, Drop)]
 pub struct Message {
-    /// The executor's agent.
+    /// The agent of the executor.
     pub agent_id: Id,
-    /// The executor.
+    /// The executor that sends or receives the bytes.
     pub executor_id: Id,
     /// The bytes, which Mesos does not interpret. In JSON they are the base64 member `data`.
     pub payload: Bytes,

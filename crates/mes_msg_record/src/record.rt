@@ -1,4 +1,4 @@
-//! A value read from the bytes of a record. `canon.rt` writes one.
+//! Reads an event or a call from the bytes of a record. `canon.rt` writes one.
 ghost use Rattle.std.specs.Prelude.{◌≡◌, ◌≤◌, IfOk, IfErr, MatchResult};
 ghost use Rattle.mes_msg_record.specs.Texts.{IsTextOf, IsFaultOf};
 
@@ -11,7 +11,7 @@ use std::alloc::Global;
 pub enum RecordFault {
     /// The bytes are not a JSON text (RFC 8259), or nest deeper than `MAX_NESTING`.
     Text(TextFault),
-    /// The JSON text is not an event or not a call. The fault has the path and the reason.
+    /// The JSON text is not the expected event or call. The fault has the path and the reason.
     Field(BoxedFault),
     /// An allocation failed.
     NoMemory,
@@ -49,7 +49,7 @@ impl From<PartFault> for RecordFault {
 pub fn read_bytes<T: Part>(alloc: Global, bytes: &[u8]) -> Result<T, RecordFault>
     requires { T.STEPS ≤ MAX_PATH_STEPS }
     ensures ok { IfOk result (IsTextOf T.kind bytes.now) }
-    // If the bytes are a JSON text of a value, only a failed allocation can prevent its return.
+    // If the bytes are a JSON text of value v, the result is v, or an allocation failed.
     ensures only { (v : T) → IsTextOf T.kind bytes.now v
         → MatchResult result (λ r. r ≡ v) (λ e. e ≡ RecordFault.NoMemory) }
     ensures err { IfErr result (IsFaultOf T.kind bytes.now) }

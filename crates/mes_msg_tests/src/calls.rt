@@ -1,4 +1,5 @@
-//! Calls: the canonical text of each, and calls without one that fits in a record.
+//! Tests of calls: the canonical text of each call, and calls without a canonical text within the
+//! limit of a record.
 
 mod faults;
 
@@ -11,7 +12,7 @@ use mes_msg::{Accept, Call, EncodeFault, Limit, Operation};
 use std::alloc::Global;
 use std::test::Fail;
 
-/// Canonical texts of calls.
+/// Texts of calls that are their own canonical texts.
 const OWN: &str =
     r#"{"type":"ACKNOWLEDGE","framework_id":{"value":"F1"},"acknowledge":{"agent_id":{"value":"A1"},"task_id":{"value":"T1"},"uuid":"AAECAwQFBgcICQoLDA0ODw=="}}
 {"type":"REVIVE","framework_id":{"value":"F1"}}
@@ -35,7 +36,7 @@ const OWN: &str =
 {"type":"TEARDOWN","framework_id":{"value":"\u0001\"\\é"}}
 "#;
 
-/// Texts with null, unknown or reordered members, and the canonical texts.
+/// Texts of calls with null, unknown or reordered members, each with the canonical text.
 const LOOSE: &str =
     r#"{"type":"\u0052EVIVE","framework_\u0069d":{"value":"F1"}} => {"type":"REVIVE","framework_id":{"value":"F1"}}
 {"type":"REVIVE","framework_id":{"value":"F1"},"revive":null} => {"type":"REVIVE","framework_id":{"value":"F1"}}
@@ -70,13 +71,13 @@ fn other_bytes_are_no_text(rt: HostRuntime) {
     assert_eq!(rt; text_fault_of(answer), Some((17, TextFaultKind::Byte)));
 }
 
-/// The smallest call.
+/// The call with the shortest canonical text.
 const REVIVE: &str = r#"{"type":"REVIVE","framework_id":{"value":"F1"}}"#;
 
-/// The next larger call.
+/// The call with the next longer canonical text.
 const SUPPRESS: &str = r#"{"type":"SUPPRESS","framework_id":{"value":"F1"}}"#;
 
-// The limit is that of the whole record: 47 bytes are enough, 46 are not.
+// The limit is the number of bytes of the record: 47 bytes are enough, 46 are not.
 #[test]
 fn a_call_fits_a_limit_of_its_length(rt: HostRuntime) -> Result<(), Fail> {
     assert_eq!(rt; REVIVE.len(), 47);
@@ -93,7 +94,7 @@ fn task_of(alloc: Global, text: &[u8]) -> Result<TaskInfo, Fail> {
     }
 }
 
-/// Returns a task whose executor has this number of nested objects.
+/// Returns a task to launch whose executor has this number of nested objects.
 fn deep_task(alloc: Global, objects: usize) -> Result<TaskInfo, Fail> {
     let text = nested(
         alloc,
@@ -146,7 +147,7 @@ fn is_too_deep<T: Record>(alloc: Global, record: T) -> bool {
     )
 }
 
-// The executor is inside seven objects and arrays.
+// The executor of a task to launch is inside seven objects and arrays of an ACCEPT call.
 #[test]
 fn calls_nest_to_the_limit(rt: HostRuntime) -> Result<(), Fail> {
     let alloc = rt.alloc();

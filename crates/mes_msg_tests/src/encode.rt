@@ -1,4 +1,4 @@
-//! Events without a canonical text, and the names of other events.
+//! Tests of events without a canonical text, and of the names of events of other types.
 
 use crate::record::{nested, record_of, refused, rewritten};
 use mes_json::{MAX_NESTING, Text};
@@ -36,7 +36,8 @@ fn deep_events_are_refused(rt: HostRuntime) -> Result<(), Fail> {
     Ok(())
 }
 
-// The written text nests to the limit, and is longer by 11 bytes: `{"offers":` and `}`.
+// The canonical text nests to the limit, and is 11 bytes longer than the text that was read:
+// `{"offers":` and `}`.
 #[test]
 fn events_nest_to_the_limit(rt: HostRuntime) -> Result<(), Fail> {
     let text = deep_offers(rt.alloc(), MOST_OBJECTS)?;
@@ -62,11 +63,11 @@ fn what_is_written_is_read_again(rt: HostRuntime) -> Result<(), Fail> {
     Ok(())
 }
 
-/// An OFFERS with a resource.
+/// An OFFERS event whose offer has a resource.
 const OFFERS: &str =
     r#"{"type":"OFFERS","offers":[{"id":{"value":"O1"},"framework_id":{"value":"F1"},"agent_id":{"value":"A1"},"hostname":"h","resources":[{"name":"cpus","type":"SCALAR","scalar":{"value":1.5}}]}]}"#;
 
-// The law needs a value and no allocator.
+// The law `value_returned` needs an event, and no allocator.
 #[test]
 fn an_event_at_hand_is_read_back(rt: HostRuntime) -> Result<(), Fail> {
     let event: Event = record_of(rt.alloc(), OFFERS.as_bytes())?;
@@ -74,7 +75,7 @@ fn an_event_at_hand_is_read_back(rt: HostRuntime) -> Result<(), Fail> {
     Ok(())
 }
 
-/// The types of events whose bodies are read.
+/// The eight known types of events.
 const KNOWN: [&str; 8] = [
     "SUBSCRIBED",
     "OFFERS",
@@ -86,7 +87,7 @@ const KNOWN: [&str; 8] = [
     "HEARTBEAT",
 ];
 
-/// Names of other events.
+/// Names of other types of events.
 const OTHER: [&str; 6] = [
     "",
     "INVERSE_OFFERS",
@@ -96,7 +97,7 @@ const OTHER: [&str; 6] = [
     "OFFERS ",
 ];
 
-/// Returns whether the name is returned as the error, because it is known.
+/// Returns whether `OtherName::new` returns the name as the error, because it is a known type.
 fn is_handed_back(alloc: Global, name: &str) -> Result<bool, Fail> {
     let text = Text::new(String::from_str(alloc, name)?);
     match OtherName::new(text) {
@@ -105,7 +106,7 @@ fn is_handed_back(alloc: Global, name: &str) -> Result<bool, Fail> {
     }
 }
 
-/// Returns whether the name is that of another event, and so is its copy.
+/// Returns whether the name is accepted as that of another type, and so is its copy.
 fn is_other(alloc: Global, name: &str) -> Result<bool, Fail> {
     let text = Text::new(String::from_str(alloc, name)?);
     match OtherName::new(text) {

@@ -1,4 +1,4 @@
-//! Invalid events, each with the path and the reason of its first fault.
+//! Tests of invalid events, each with the path and the reason of its first fault.
 
 use crate::record::expect_faults;
 use crate::support::{field_fault_of, text_fault_of};
@@ -7,7 +7,7 @@ use mes_model_schema::FieldFaultKind;
 use mes_msg::Event;
 use std::test::Fail;
 
-/// Faults of the member `type`, and values that are no objects.
+/// Invalid events with a fault of the member `type`, and JSON values that are no objects.
 const TYPES: &str = r#"null => . WrongKind
 true => . WrongKind
 1 => . WrongKind
@@ -172,7 +172,7 @@ fn the_first_fault_of_an_event_is_reported(rt: HostRuntime) -> Result<(), Fail> 
     expect_faults::<Event, HostRuntime>(&rt, ERROR)
 }
 
-/// Bytes that are no JSON text, with the offset and the reason.
+/// Bytes that are no JSON text, each with the offset and the reason of the fault.
 const NO_TEXTS: [(&str, u64, TextFaultKind); 5] = [
     ("", 0, TextFaultKind::End),
     (r#"{"type":"HEARTBEAT""#, 19, TextFaultKind::End),
@@ -189,7 +189,7 @@ fn other_bytes_are_no_text(rt: HostRuntime) {
     }
 }
 
-// Arrays nested to the limit are a JSON text, but no event.
+// Arrays nested to the limit `MAX_NESTING` are a JSON text, but no event.
 #[test]
 fn arrays_are_no_event(rt: HostRuntime) -> Result<(), Fail> {
     let mut text = Vec::new(rt.alloc());
@@ -203,7 +203,7 @@ fn arrays_are_no_event(rt: HostRuntime) -> Result<(), Fail> {
     Ok(())
 }
 
-// Deeper arrays are no JSON text.
+// Arrays nested deeper than `MAX_NESTING` are not accepted as a JSON text.
 #[test]
 fn deeper_arrays_are_no_text(rt: HostRuntime) {
     let answer = Event::read_record(rt.alloc(), &[b'['; MAX_NESTING + 1]);

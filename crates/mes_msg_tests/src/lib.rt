@@ -1,5 +1,5 @@
-//! Tests of events and calls by the public calls of `mes_msg`: tables of JSON texts with their
-//! results.
+//! Tests of events and calls with the public functions of `mes_msg`. Most tests have a table of
+//! JSON texts, each with the expected result.
 #![tactic(auto)]
 
 #[cfg(test)]

@@ -1,5 +1,5 @@
-//! Events and calls read from JSON texts: the canonical text, or the path and the reason of the
-//! first fault.
+//! Helpers for events and calls read from JSON texts: they check the canonical text, or the path
+//! and the reason of the first fault.
 
 use crate::support::{as_text, expect_fault, field_fault_of, row_of};
 use mes_frame::MAX_RECORD_LIMIT;
@@ -60,7 +60,7 @@ pub(crate) fn expect_faults<T: Record, R: Abort + AllocGlobal>(
     Ok(())
 }
 
-/// Returns a text with this number of nested objects between a beginning and an end.
+/// Returns the text of a beginning, this number of nested objects, and an end.
 pub(crate) fn nested(
     alloc: Global,
     front: &[u8],
@@ -106,8 +106,8 @@ pub(crate) fn rewritten<T: Record>(alloc: Global, text: &[u8]) -> Result<Vec<u8>
     canon(&record_of::<T>(alloc, text)?, alloc, Limit::LARGEST)
 }
 
-/// Returns the reason for which the record of a text has no canonical text within the limit, if
-/// any.
+/// Returns the reason for which the event or call of a text has no canonical text within the limit,
+/// if there is a reason.
 pub(crate) fn refused<T: Record>(
     alloc: Global,
     text: &[u8],
@@ -121,8 +121,8 @@ fn is_too_large<T: Record>(record: &T, alloc: Global, limit: Limit) -> bool {
     matches!(record.canonical(alloc, limit), Err(EncodeFault::TooLarge))
 }
 
-/// Checks the canonical text, with a limit of exactly its length, and that one byte less is too
-/// small.
+/// Checks the canonical text with a limit of exactly its length, and that a limit of one byte less
+/// is too small.
 fn expect_canon<T: Record, R: Abort + AllocGlobal>(
     rt: &R,
     record: &T,
@@ -137,7 +137,8 @@ fn expect_canon<T: Record, R: Abort + AllocGlobal>(
     Ok(())
 }
 
-/// Checks the canonical text of the record of a text, of its copy, and of the record of its tree.
+/// Checks the canonical text of the event or call of a text, of its copy, and of the event or call
+/// that is read from the JSON tree of the text.
 pub(crate) fn expect_record<T: Record, R: Abort + AllocGlobal>(
     rt: &R,
     text: &str,

@@ -1,4 +1,4 @@
-//! The printed lines of events.
+//! Tests of the printed lines of events.
 
 use crate::record::record_of;
 use crate::support::{as_text, row_of};
@@ -7,7 +7,7 @@ use std::alloc::Global;
 use std::process::Abort;
 use std::test::Fail;
 
-// The lines of the event of a record, with this number.
+// Returns the printed lines of the event in a record, with this number.
 fn lines_of(alloc: Global, number: u64, record: &str) -> Result<Vec<u8>, Fail> {
     let event: Event = record_of(alloc, record.as_bytes())?;
     let lines = event.show_lines(alloc, number);
@@ -15,7 +15,7 @@ fn lines_of(alloc: Global, number: u64, record: &str) -> Result<Vec<u8>, Fail> {
     Ok(lines?)
 }
 
-// Checks the lines of the event of a record, with this number.
+// Checks the printed lines of the event in a record, with this number.
 fn expect_lines<R: Abort>(
     rt: &R,
     alloc: Global,
@@ -28,7 +28,7 @@ fn expect_lines<R: Abort>(
     Ok(())
 }
 
-// Events, and the line of each with the number 1.
+// Events, each with its printed line for the number 1.
 const BODIES: &str =
     r#"{"type":"SUBSCRIBED","subscribed":{"framework_id":{"value":"F1"},"heartbeat_interval_seconds":15}} => 1 SUBSCRIBED "F1" 15.0
 {"type":"SUBSCRIBED","subscribed":{"framework_id":{"value":"F1"},"heartbeat_interval_seconds":0.0000015}} => 1 SUBSCRIBED "F1" 0.000002
@@ -73,7 +73,7 @@ fn each_offer_has_a_line_of_its_own(rt: HostRuntime) -> Result<(), Fail> {
     Ok(())
 }
 
-// Checks the end of the line of an update whose status has these members after its state.
+// Checks the end of the printed line of an UPDATE whose status has these members after `state`.
 fn expect_update<R: Abort>(rt: &R, alloc: Global, members: &str, rest: &str) -> Result<(), Fail> {
     let record = format!(in alloc;
         "{{\"type\":\"UPDATE\",\"update\":{{\"status\":{{\"task_id\":{{\"value\":\"T1\"}},\"state\":\"TASK_RUNNING\"{members}}}}}}}"
@@ -82,7 +82,7 @@ fn expect_update<R: Abort>(rt: &R, alloc: Global, members: &str, rest: &str) -> 
     expect_lines(rt, alloc, 1, record.as_str(), lines.as_str())
 }
 
-// The 16 bytes 00 to 0f, then 15 of them, one byte, no bytes, and no uuid.
+// The uuids are the 16 bytes 00 to 0f, 15 bytes, one byte, no bytes, and an absent uuid.
 #[test]
 fn a_uuid_of_another_length_is_printed_in_hexadecimal(rt: HostRuntime) -> Result<(), Fail> {
     let updates = [

@@ -1,9 +1,9 @@
 //! Helpers of the tests of events and calls.
 //!
-//! A table is a text with a row on each line: `TEXT => PATH REASON` for a text with a fault, and
-//! `TEXT => CANONICAL` for a valid one. The proof of a test of a table of literals takes time in
-//! proportion to its rows; one text takes none. An event or a call makes each later step of its
-//! function slow to prove, so the functions that make one are small.
+//! A table of tests is one string with a test on each line: `TEXT => PATH REASON` for an invalid
+//! JSON text, and `TEXT => CANONICAL` for a valid one. The time to prove a test grows with the
+//! number of string literals in its table, so each table is a single literal. A function that makes
+//! an event or a call is slow to prove if more steps follow, so such functions are small.
 
 use arrayvec::ArrayString;
 use mes_json::TextFaultKind;

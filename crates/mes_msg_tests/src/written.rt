@@ -1,10 +1,10 @@
-//! Events, and the canonical text of each and of its copy.
+//! Tests of events: the canonical text of each event and of its copy.
 
 use crate::record::expect_records;
 use mes_msg::Event;
 use std::test::Fail;
 
-/// SUBSCRIBED, RESCIND, MESSAGE, UPDATE, FAILURE and ERROR.
+/// Texts of SUBSCRIBED, RESCIND, MESSAGE, UPDATE, FAILURE and ERROR, each with the canonical text.
 const PLAIN: &str =
     r#"{"type":"SUBSCRIBED","subscribed":{"framework_id":{"value":"F1"}}} => {"type":"SUBSCRIBED","subscribed":{"framework_id":{"value":"F1"}}}
 {"type":"SUBSCRIBED","subscribed":{"framework_id":{"value":"F1"},"heartbeat_interval_seconds":15}} => {"type":"SUBSCRIBED","subscribed":{"framework_id":{"value":"F1"},"heartbeat_interval_seconds":15.0}}
@@ -29,7 +29,7 @@ const PLAIN: &str =
 {"type":"ERROR","error":{"message":"\u0061\/"}} => {"type":"ERROR","error":{"message":"a/"}}
 "#;
 
-/// HEARTBEAT, and events whose bodies are ignored.
+/// Texts of HEARTBEAT and of events whose bodies are ignored, each with the canonical text.
 const NAMES: &str = r#"{"type":"HEARTBEAT"} => {"type":"HEARTBEAT"}
  { "x":1, "type" : "HEARTBEAT", "x":2 }  => {"type":"HEARTBEAT"}
 {"type":"HEARTBEAT","offers":7,"error":{},"error":{}} => {"type":"HEARTBEAT"}
@@ -43,7 +43,7 @@ const NAMES: &str = r#"{"type":"HEARTBEAT"} => {"type":"HEARTBEAT"}
 {"type":"a\u0000\"é"} => {"type":"a\u0000\"é"}
 "#;
 
-/// OFFERS and UPDATE, with the parts in them.
+/// Texts of OFFERS and UPDATE with nested messages, each with the canonical text.
 const PARTS: &str =
     r#"{"type":"OFFERS","offers":[{"id":{"value":"O1"},"framework_id":{"value":"F1"},"agent_id":{"value":"A1"},"hostname":"h"}]} => {"type":"OFFERS","offers":{"offers":[{"id":{"value":"O1"},"framework_id":{"value":"F1"},"agent_id":{"value":"A1"},"hostname":"h"}]}}
 {"type":"OFFERS","offers":{"offers":[{"id":{"value":"O1"},"framework_id":{"value":"F1"},"agent_id":{"value":"A1"},"hostname":"h"}]}} => {"type":"OFFERS","offers":{"offers":[{"id":{"value":"O1"},"framework_id":{"value":"F1"},"agent_id":{"value":"A1"},"hostname":"h"}]}}

@@ -1,4 +1,5 @@
-//! Bytes read from JSON strings and written back, by the test vectors of RFC 4648 section 10.
+//! Tests of bytes read from JSON strings and written back, with the test vectors of RFC 4648
+//! section 10.
 
 ghost use Rattle.std.specs.Prelude.{◌<◌, ◌≤◌};
 
@@ -9,7 +10,7 @@ use std::alloc::Global;
 use std::process::Abort;
 use std::test::Fail;
 
-/// Bytes, and the JSON text that they are written as.
+/// Lists of bytes, each with the JSON text that the bytes are written as.
 const VECTORS: [(&[u8], &str); 9] = [
     (b"", "\"\""),
     (b"f", "\"Zg==\""),
@@ -25,8 +26,9 @@ const VECTORS: [(&[u8], &str); 9] = [
     (&[0xFB, 0xFF], "\"+/8=\""),
 ];
 
-/// Invalid texts: no padding, too much or too little, unused bits that are not zero, the URL-safe
-/// alphabet, white space, bytes after the padding. Some have another JSON kind.
+/// Invalid JSON texts with their faults: no padding, too much or too little padding, unused bits
+/// that are not zero, the URL-safe alphabet, white space, bytes after the padding, or another JSON
+/// type.
 const REFUSED: &str = r#""Zg" => . BadBase64
 "Zg=" => . BadBase64
 "Zg===" => . BadBase64
@@ -45,20 +47,21 @@ null => . WrongKind
 {} => . WrongKind
 "#;
 
-/// The letters by their values (RFC 4648, table 1).
+/// The base64 letters in the order of their values (RFC 4648, table 1).
 const LETTERS: &[u8; 64] = b"ABCDEFGHIJKLMNOPQRSTUVWXYZabcdefghijklmnopqrstuvwxyz0123456789+/";
 
-/// The bytes that the letters encode: three for each four letters.
+/// The bytes that `LETTERS` encodes: three bytes for each four letters.
 const OCTETS: &[u8; 48] =
     b"\x00\x10\x83\x10\x51\x87\x20\x92\x8B\x30\xD3\x8F\x41\x14\x93\x51\x55\x97\x61\x96\x9B\x71\xD7\x9F\x82\x18\xA3\x92\x59\xA7\xA2\x9A\xAB\xB2\xDB\xAF\xC3\x1C\xB3\xD3\x5D\xB7\xE3\x9E\xBB\xF3\xDF\xBF";
 
-/// The end of a text after whole groups of letters, and the bytes that it encodes.
+/// Ends of a text after its groups of four letters, each with the bytes that the end encodes.
 const LAST: [(&[u8], &[u8]); 3] = [(b"", b""), (b"/w==", b"\xFF"), (b"//8=", b"\xFF\xFF")];
 
-/// The characters next to the ranges of letters, and those of the URL-safe alphabet.
+/// Characters that are no letters: those next to the ranges of letters, and those of the URL-safe
+/// alphabet.
 const NO_LETTERS: &[u8; 12] = b" *,-.:@[_`{~";
 
-/// Reads a string of these letters and this end.
+/// Reads a JSON string of these letters followed by this end.
 fn read_letters(
     alloc: Global,
     letters: &[u8],
@@ -80,7 +83,7 @@ fn bytes_of(answer: Result<Bytes, PartFault>) -> Result<Bytes, Fail> {
     }
 }
 
-/// Checks that this number of groups is read, with each end.
+/// Checks that a text with this number of groups of letters is read, with each of the ends.
 fn expect_groups<R: Abort>(rt: &R, alloc: Global, groups: usize) -> Result<(), Fail>
     requires { groups ≤ 16 }
 {
@@ -92,7 +95,7 @@ fn expect_groups<R: Abort>(rt: &R, alloc: Global, groups: usize) -> Result<(), F
     Ok(())
 }
 
-/// Checks that a character that is no letter makes the text invalid, at this index.
+/// Checks that each character that is no letter makes a text invalid, if it is at this index.
 fn expect_refused<R: Abort>(rt: &R, alloc: Global, place: usize) -> Result<(), Fail>
     requires { place < 64 }
 {
@@ -105,7 +108,7 @@ fn expect_refused<R: Abort>(rt: &R, alloc: Global, place: usize) -> Result<(), F
     Ok(())
 }
 
-/// Like [`expect_refused`], but with a character of two bytes.
+/// Like [`expect_refused`], but with a character that has two bytes in UTF-8.
 fn expect_wide_refused<R: Abort>(rt: &R, alloc: Global, place: usize) -> Result<(), Fail>
     requires { place < 63 }
 {
@@ -130,7 +133,7 @@ fn expect_bytes<R: Abort>(
     expect_text(rt, alloc, &bytes.tree(alloc)?, text)
 }
 
-/// Checks the bytes of a text, their copy, and the bytes read back.
+/// Checks the bytes that are read from a text, their copy, and the bytes written and read again.
 fn expect_read<R: Abort>(rt: &R, alloc: Global, octets: &[u8], text: &str) -> Result<(), Fail> {
     let bytes: Bytes = value_of(alloc, text)?;
     expect_bytes(rt, alloc, &bytes, octets, text)?;

@@ -1,4 +1,4 @@
-//! The printed form of paths.
+//! Tests of the printed form of paths.
 
 use arrayvec::ArrayString;
 use mes_model_schema::{Path, Step};

@@ -1,4 +1,4 @@
-//! Labels read from JSON texts: the value, or the path and the reason of the first fault.
+//! Tests of labels read from JSON texts: the value, or the path and the reason of the first fault.
 
 ghost use Rattle.std.specs.Prelude.{◌≤◌, ◌+◌};
 
@@ -14,7 +14,7 @@ use std::alloc::Global;
 use std::process::Abort;
 use std::test::Fail;
 
-/// Texts that are not labels, with their faults.
+/// JSON texts that are not labels, each with the first fault.
 const FAULTS: &str = r#"[] => . WrongKind
 null => . WrongKind
 {"labels":{}} => labels WrongKind
@@ -28,14 +28,14 @@ null => . WrongKind
 {"labels":[{"key":"a","value":[]}]} => labels[0].value WrongKind
 "#;
 
-/// Texts of labels, and the canonical texts.
+/// JSON texts of labels, each with the canonical text.
 const LABELS: &str = r#"{} => {}
 {"labels":null} => {}
 {"x":1,"labels":[],"x":{}} => {}
 {"labels":[{"key":"k"},{"value":"v","key":"l"},{"key":"m","value":null,"y":[{}]}]} => {"labels":[{"key":"k"},{"key":"l","value":"v"},{"key":"m"}]}
 "#;
 
-/// Texts that are no list of labels in either form, with their faults.
+/// JSON texts that are no list of labels in either form, each with the first fault.
 const EITHER_FAULTS: &str = r#"null => . WrongKind
 7 => . WrongKind
 "labels" => . WrongKind
@@ -45,7 +45,7 @@ const EITHER_FAULTS: &str = r#"null => . WrongKind
 {"labels":[],"labels":[]} => labels Twice
 "#;
 
-/// Texts of a list of labels in either form, and the canonical texts.
+/// JSON texts of a list of labels in either form, each with the canonical text.
 const EITHER: &str = r#"[] => []
 {} => []
 {"labels":null,"key":7} => []
@@ -53,7 +53,7 @@ const EITHER: &str = r#"[] => []
 {"labels":[{"key":"a"},{"key":"b"}]} => [{"key":"a"},{"key":"b"}]
 "#;
 
-/// Objects with an unsupported member `x`, with their faults.
+/// JSON objects with an unsupported member `x`, each with the first fault.
 const LEFT_OUT: &str = r#"{"x":{}} => x LeftOut
 {"x":false} => x LeftOut
 {"y":1,"x":""} => x LeftOut
@@ -61,10 +61,10 @@ const LEFT_OUT: &str = r#"{"x":{}} => x LeftOut
 {"x":{},"x":{}} => x Twice
 "#;
 
-/// Objects without `x`.
+/// JSON objects whose unsupported member `x` is absent or `null`.
 const NOT_THERE: [&str; 3] = ["{}", "{\"x\":null}", "{\"y\":{},\"y\":{}}"];
 
-/// Returns the fault of an unsupported member `x`, if it has one.
+/// Returns the fault of the unsupported member `x` in the object of a text, if there is a fault.
 fn fault_of_left_out(alloc: Global, text: &str) -> Result<Option<FieldFault>, Fail> {
     let tape = read_tape(alloc, text.as_bytes())?;
     let mut found = nothing_found::<1>();
@@ -79,7 +79,7 @@ fn the_first_fault_of_labels_is_reported(rt: HostRuntime) -> Result<(), Fail> {
     expect_faults::<Labels, HostRuntime>(&rt, FAULTS)
 }
 
-/// Returns the tree of the value of a text after it was written and read back.
+/// Reads the value of a text, writes it and reads it back. Returns the tree of the result.
 fn tree_again<T: Part>(alloc: Global, text: &str) -> Result<Json, Fail>
     requires { T.STEPS ≤ MAX_PATH_STEPS }
 {
@@ -101,7 +101,7 @@ fn labels_are_read(rt: HostRuntime) -> Result<(), Fail> {
     Ok(())
 }
 
-/// Reads a list in either form; the object form has it under `labels`.
+/// Reads a list in either form; the object form has the array as the member `labels`.
 fn read_either<T: Part>(alloc: Global, text: &str) -> Result<Result<List<T>, PartFault>, Fail>
     requires { 2 + T.STEPS ≤ MAX_PATH_STEPS }
 {
@@ -139,19 +139,19 @@ fn lists_are_read_in_either_form(rt: HostRuntime) -> Result<(), Fail> {
     Ok(())
 }
 
-/// Arrays of labels, and the canonical texts.
+/// JSON arrays of labels, each with the canonical text.
 const ARRAYS: &str = r#"[] => []
 [{"key":"a"},{"value":"v","key":"b","x":1}] => [{"key":"a"},{"key":"b","value":"v"}]
 "#;
 
-/// Texts that are no array of labels, with their faults.
+/// JSON texts that are no array of labels, each with the first fault.
 const NO_ARRAYS: &str = r#"{} => . WrongKind
 null => . WrongKind
 [{"key":"a"},null] => [1] WrongKind
 [{"key":"a"},{"key":7}] => [1].key WrongKind
 "#;
 
-/// Reads a list from the tree of a text.
+/// Reads a list from the JSON tree of a text.
 fn read_array<T: Part>(alloc: Global, text: &str) -> Result<Result<List<T>, PartFault>, Fail>
     requires { 1 + T.STEPS ≤ MAX_PATH_STEPS }
 {
@@ -159,7 +159,7 @@ fn read_array<T: Part>(alloc: Global, text: &str) -> Result<Result<List<T>, Part
     Ok(read_list(alloc, &tree, &Path::new()))
 }
 
-/// Returns the list after conversion to `Labels` and back, and the number of labels.
+/// Converts a list to `Labels` and back. Returns the list and the number of labels.
 fn through_labels(list: List<Label>) -> (List<Label>, usize) {
     let labels = Labels::new(list);
     let count = labels.as_slice().len();

@@ -1,4 +1,4 @@
-//! Values written as JSON texts.
+//! Tests of values written as JSON texts.
 
 use crate::support::{as_text, expect_text};
 use mes_fixed::{Micros, Thousandths};
@@ -23,13 +23,15 @@ fn label(alloc: Global, key: &str, value: Option<&str>) -> Result<Label, Fail> {
     })
 }
 
-/// Appends the text of a value. Returns the depth reported, and the depth of its tree.
+/// Appends the text of a value. Returns the nesting depth that `write_json` returned, and the
+/// nesting depth of the value's tree.
 fn write_direct<T: Part>(alloc: Global, value: &T, out: &mut Vec<u8>) -> Result<(u64, u64), Fail> {
     let deep = value.write_json(alloc, out)?;
     Ok((deep, value.tree(alloc)?.depth()))
 }
 
-/// Checks the text appended to one byte, and that the depth reported is that of the tree.
+/// Checks the text that is appended after one byte, and that the nesting depth returned is that of
+/// the tree.
 fn expect_direct<R: Abort, T: Part>(
     rt: &R,
     alloc: Global,
@@ -46,7 +48,7 @@ fn expect_direct<R: Abort, T: Part>(
     Ok(())
 }
 
-/// Checks the text of a value and of its copy, written from its tree and directly.
+/// Checks the text of a value, written from its tree and without a tree, and the text of its copy.
 fn expect_written<R: Abort, T: Part>(
     rt: &R,
     alloc: Global,
@@ -76,7 +78,7 @@ fn put(members: &mut Vec<(Text, Json)>, name: Text, value: Json) -> Result<(), F
     Ok(members.push((name, value))?)
 }
 
-/// Returns an object with two members of one name.
+/// Returns a JSON object with two members of one name.
 fn twice(alloc: Global) -> Result<Json, Fail> {
     let mut members = Vec::new(alloc);
     put(&mut members, text(alloc, "a")?, Json::Null)?;
@@ -84,7 +86,7 @@ fn twice(alloc: Global) -> Result<Json, Fail> {
     Ok(Json::Map(members))
 }
 
-/// Returns that object as a `Kept`.
+/// Returns the object of `twice` as a `Kept`.
 fn kept(alloc: Global) -> Result<Kept, Fail> {
     match Kept::new(twice(alloc)?) {
         Ok(kept) => Ok(kept),

@@ -1,10 +1,10 @@
-//! Invalid calls, each with the path and the reason of its first fault.
+//! Tests of invalid calls, each with the path and the reason of its first fault.
 
 use crate::record::expect_faults;
 use mes_msg::Call;
 use std::test::Fail;
 
-/// Faults of the member `type`, and values that are no objects.
+/// Invalid calls with a fault of the member `type`, and JSON values that are no objects.
 const TYPES: &str = r#"{"t\u0079pe":"REVIVE","type":"REVIVE"} => type Twice
 null => . WrongKind
 [] => . WrongKind
@@ -28,7 +28,7 @@ null => . WrongKind
 {"type":"REVIVE ","framework_id":{"value":"F1"}} => type LeftOut
 "#;
 
-/// Faults of the framework id, which come before those of the body.
+/// Invalid calls with a fault of `framework_id`, which is reported before a fault of the body.
 const FRAMEWORKS: &str = r#"{"type":"TEARDOWN"} => framework_id Missing
 {"type":"TEARDOWN","framework_id":null} => framework_id Missing
 {"type":"TEARDOWN","framework_id":"F1"} => framework_id WrongKind

@@ -1,4 +1,4 @@
--- The tape of a tree has the tree and nothing after it.
+-- Lemma: the tape built from a tree represents that tree and nothing after it.
 use Rattle.std.proofs.Common.{[], sym, ◌∙◌, append-nil}
 use Rattle.mes_json.specs.Tokens.{tokens}
 use Rattle.mes_json.specs.View.{view}
