@@ -1,5 +1,5 @@
 //! Search for the end of the consecutive numbers that ranges cover from a given number on. Used by
-//! `unoffered.rt`.
+//! `unoffered_pieces.rt`.
 ghost use Rattle.std.specs.Prelude.{◌≡◌, ◌≤◌, ℕ, true, false, Some, IfSome};
 ghost use Rattle.mes_session_fit.specs.Keys.{key_of};
 ghost use Rattle.mes_session_fit.specs.Fits.{in_ranges, piece_of, has_piece, offered};

@@ -20,13 +20,20 @@ use std::alloc::{AllocError, Global};
 pub fn command<'a>(alloc: Global) -> Result<Command<'a>, AllocError>
     ensures { IfOk result (IsCommand subscribe_app) }
 {
-    Command::new(alloc, "subscribe")
-        .about("Subscribe to a master, and print its events as they arrive")
-        .after_help("Example: mesosev subscribe --to 127.0.0.1:5050 --user root --name n")
+    bare_command(alloc)
         .arg(to_option(alloc))?
         .arg(user_option(alloc))?
         .arg(name_option(alloc))?
         .arg(reads_option(alloc))
+}
+
+// The command without its options.
+fn bare_command<'a>(alloc: Global) -> Command<'a>
+    ensures { IsCommand (new_app (codes "subscribe")) result }
+{
+    Command::new(alloc, "subscribe")
+        .about("Subscribe to a master, and print its events as they arrive")
+        .after_help("Example: mesosev subscribe --to 127.0.0.1:5050 --user root --name n")
 }
 
 fn to_option<'a>(alloc: Global) -> Arg<'a>

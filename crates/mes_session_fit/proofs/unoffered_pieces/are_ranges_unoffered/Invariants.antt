@@ -2,7 +2,7 @@ use Rattle.std.proofs.Common.{◌≡◌, ℕ, true, take}
 use Rattle.mes_session_fit.specs.Keys.{key_of}
 use Rattle.mes_session_fit.specs.Fits.{in_ranges, has_piece, offered}
 use Rattle.mes_session_fit.specs.Fits.Piece.{point}
-use Rattle.mes_session_fit.proofs.unoffered.are_ranges_unoffered.Given as goal
+use Rattle.mes_session_fit.proofs.unoffered_pieces.are_ranges_unoffered.Given as goal
 
 -- the points of the ranges so far are offered
 abbrev pub invariant-loop-index : goal.invariant-loop-index

@@ -3,7 +3,7 @@ use Rattle.mes_session_fit.specs.Fits.Piece.{point}
 use Rattle.mes_session_fit.specs.Launched.{launched, place}
 use Rattle.mes_session_fit.proofs.BatchLemmas.{resource-free}
 use Rattle.mes_session_fit.proofs.BreachLemmas.{known, lacking, answered}
-use Rattle.mes_session_fit.proofs.breach.breaks.Goals as goal
+use Rattle.mes_session_fit.proofs.fit_check.breaks.Goals as goal
 
 pub is_unoffered-requires : goal.is_unoffered-requires
 is_unoffered-requires g c = λ x.

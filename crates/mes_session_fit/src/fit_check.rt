@@ -1,5 +1,5 @@
 //! Search for the first resource that does not fit the offers. The checks of one resource are in
-//! `supply.rt`, `unoffered.rt` and `other_tasks.rt`.
+//! `supply.rt`, `unoffered_pieces.rt` and `other_tasks.rt`.
 ghost use Rattle.std.specs.Prelude.{◌≡◌, ◌+◌, ◌<◌, ◌≤◌, ◌⊎◌, ◌↔◌, ◌++◌, ℕ, take, length, slice_get, get_or, Some, true, IsTrue, IsFalse, IfSome, IfNone};
 ghost use Rattle.std.specs.List.{list_any};
 ghost use Rattle.mes_session_fit.specs.Keys.{key_of, is_of};
@@ -12,7 +12,7 @@ use crate::offer_list::OfferList;
 use crate::other_tasks::{has_key_before, meets_another, resources_have_key};
 use crate::supply::exceeds;
 use crate::task_group::TaskGroup;
-use crate::unoffered::is_unoffered;
+use crate::unoffered_pieces::is_unoffered;
 use mes_model::{Resource, ResourceValue, TaskInfo};
 
 /// The first resource that does not fit the offers.

@@ -1,7 +1,7 @@
 use Rattle.std.proofs.Common.{arith}
 use Rattle.mes_session_fit.specs.Launched.{launched, place}
 use Rattle.mes_session_fit.proofs.BreachLemmas.{ahead-of, task-none}
-use Rattle.mes_session_fit.proofs.breach.breach_of_task.Goals as goal
+use Rattle.mes_session_fit.proofs.fit_check.breach_of_task.Goals as goal
 
 pub breaks-requires-clause-first : goal.breaks-requires-clause-first
 breaks-requires-clause-first g c =

@@ -3,7 +3,7 @@ use Rattle.mes_model.specs.TaskInfo.{TaskInfo}
 use Rattle.mes_session_fit.specs.Launched.{launched, place, as_index}
 use Rattle.mes_session_fit.proofs.BreachLemmas.{none-at, all-none, counted}
 use Rattle.mes_session_fit.proofs.LaunchedLemmas.{next-place}
-use Rattle.mes_session_fit.proofs.breach.first_breach.Goals as goal
+use Rattle.mes_session_fit.proofs.fit_check.first_breach.Goals as goal
 
 pub loop-at-preserved : goal.loop-at-preserved
 loop-at-preserved g c =

@@ -2,7 +2,7 @@ use Rattle.std.proofs.Common.{◌≡◌, ℕ, List, true, take}
 use Rattle.mes_session_fit.specs.Keys.{key_of}
 use Rattle.mes_session_fit.specs.Fits.{in_items, has_piece, offered}
 use Rattle.mes_session_fit.specs.Fits.Piece.{item}
-use Rattle.mes_session_fit.proofs.unoffered.are_items_unoffered.Given as goal
+use Rattle.mes_session_fit.proofs.unoffered_pieces.are_items_unoffered.Given as goal
 
 -- the items so far are offered
 abbrev pub invariant-loop-item : goal.invariant-loop-item

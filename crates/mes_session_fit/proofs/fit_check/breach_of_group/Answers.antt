@@ -4,7 +4,7 @@ use Rattle.mes_session_fit.specs.Launched.{launched, place}
 use Rattle.mes_session_fit.proofs.BreachLemmas.{none-at, place-next}
 use Rattle.mes_session_fit.proofs.LaunchedLemmas.{get-place, next-place}
 use Rattle.mes_session_fit.proofs.ListLemmas.{get-at}
-use Rattle.mes_session_fit.proofs.breach.breach_of_group.Goals as goal
+use Rattle.mes_session_fit.proofs.fit_check.breach_of_group.Goals as goal
 
 pub breach_of_task-requires-clause-is : goal.breach_of_task-requires-clause-is
 breach_of_task-requires-clause-is g c =

@@ -1,7 +1,7 @@
 use Rattle.std.proofs.Common.{◌≡◌}
 use Rattle.mes_session_fit.specs.Fits.{NoneBefore}
 use Rattle.mes_session_fit.specs.Launched.{launched, place, as_index}
-use Rattle.mes_session_fit.proofs.breach.first_breach.Given as goal
+use Rattle.mes_session_fit.proofs.fit_check.first_breach.Given as goal
 
 -- `before` counts the tasks of the groups so far, and each of these tasks fits
 abbrev pub invariant-loop-at : goal.invariant-loop-at

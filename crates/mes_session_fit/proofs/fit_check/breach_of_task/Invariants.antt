@@ -1,7 +1,7 @@
 use Rattle.std.proofs.Common.{ℕ, ◌<◌}
 use Rattle.mes_session_fit.specs.Fits.{BreaksAt}
 use Rattle.mes_session_fit.specs.Launched.{launched, place}
-use Rattle.mes_session_fit.proofs.breach.breach_of_task.Given as goal
+use Rattle.mes_session_fit.proofs.fit_check.breach_of_task.Given as goal
 
 -- each of the task's resources so far fits
 abbrev pub invariant-loop-resource : goal.invariant-loop-resource

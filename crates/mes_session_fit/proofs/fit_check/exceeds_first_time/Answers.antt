@@ -3,7 +3,7 @@ use Rattle.mes_session_fit.specs.Keys.{type_of, scalar}
 use Rattle.mes_session_fit.specs.Fits.{asked}
 use Rattle.mes_session_fit.specs.Launched.{launched}
 use Rattle.mes_session_fit.proofs.FitsLemmas.{no-amount}
-use Rattle.mes_session_fit.proofs.breach.exceeds_first_time.Goals as goal
+use Rattle.mes_session_fit.proofs.fit_check.exceeds_first_time.Goals as goal
 
 pub returns-in-Ranges-clause-no : goal.returns-in-Ranges-clause-no
 returns-in-Ranges-clause-no g c = λ _.

@@ -3,7 +3,7 @@ use Rattle.mes_session_fit.specs.Keys.{key_of}
 use Rattle.mes_session_fit.specs.Fits.{has_piece, offered}
 use Rattle.mes_session_fit.specs.Fits.Piece.{item as item_piece}
 use Rattle.mes_session_fit.proofs.LookLemmas.{item-in, items-more}
-use Rattle.mes_session_fit.proofs.unoffered.are_items_unoffered.Goals as goal
+use Rattle.mes_session_fit.proofs.unoffered_pieces.are_items_unoffered.Goals as goal
 
 pub returns-then-not-offers_have_item : goal.returns-then-not-offers_have_item
 returns-then-not-offers_have_item g c =

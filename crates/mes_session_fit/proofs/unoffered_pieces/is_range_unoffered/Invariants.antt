@@ -2,7 +2,7 @@ use Rattle.std.proofs.Common.{◌≡◌, ℕ, ◌+◌, ◌-◌, ◌≤◌, ◌<�
 use Rattle.mes_session_fit.specs.Keys.{key_of}
 use Rattle.mes_session_fit.specs.Fits.{has_piece, offered}
 use Rattle.mes_session_fit.specs.Fits.Piece.{point}
-use Rattle.mes_session_fit.proofs.unoffered.is_range_unoffered.Given as goal
+use Rattle.mes_session_fit.proofs.unoffered_pieces.is_range_unoffered.Given as goal
 
 -- the points so far are offered
 abbrev pub invariant-loop-at : goal.invariant-loop-at

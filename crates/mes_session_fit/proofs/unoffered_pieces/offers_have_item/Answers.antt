@@ -4,7 +4,7 @@ use Rattle.mes_session_fit.specs.Fits.{piece_of}
 use Rattle.mes_session_fit.specs.Fits.Piece.{item as item_piece}
 use Rattle.mes_session_fit.proofs.ListLemmas.{get-of}
 use Rattle.mes_session_fit.proofs.LookLemmas.{any-in, none-more}
-use Rattle.mes_session_fit.proofs.unoffered.offers_have_item.Goals as goal
+use Rattle.mes_session_fit.proofs.unoffered_pieces.offers_have_item.Goals as goal
 
 pub returns-then-resources_have_item : goal.returns-then-resources_have_item
 returns-then-resources_have_item g c =
