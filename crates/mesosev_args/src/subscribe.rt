@@ -1,6 +1,6 @@
 //! Subcommand `subscribe`: prints the events of a master.
 ghost use Rattle.std.specs.Prelude.{◌≡◌, false, IfOk, IfErr, codes};
-ghost use Rattle.clap.specs.Words.{found_of, rows_of, rule_of};
+ghost use Rattle.clap.specs.Words.{found_of, new_app, rows_of, rule_of};
 ghost use Rattle.mes_double_http.specs.Hosts.{IsHost};
 ghost use Rattle.mesosev_args.specs.CommandLine.{IsCommand, name_rule, reads_rule, subscribe_app, to_rule, user_rule};
 ghost use Rattle.mesosev_args.specs.NamedOptions.{HasNumber, HasText, IsBad, IsBadOrLacks, IsReads, Reads};
