@@ -60,18 +60,18 @@ byte_or_not b = elim (cases_eq b 9) [
 ]
 
 no_digit : (count size b : ℕ) (x d : List ℕ) → PhaseRepresents (Size count size) x d → count < MAX_CHUNK_LINE → 16 ≤ digit_value b → (0 < count → b ≡ 13 → ⊥) → Answer x d b
-no_digit count size b x d represents room other cr = elim (cases_lt 0 count) [
+no_digit count size b x d represents remaining other cr = elim (cases_lt 0 count) [
   | inl some ↦ elim (begins_or_not b) [
-    | inl begins ↦ quietly (Extension (count + 1) size) x d b (extension_begins count size b x d represents some room begins)
-    | inr bare ↦ shows BadChunkLine x d b (size_shows count size b x d represents room other (λ h. bare) cr)
+    | inl begins ↦ quietly (Extension (count + 1) size) x d b (extension_begins count size b x d represents some remaining begins)
+    | inr bare ↦ shows BadChunkLine x d b (size_shows count size b x d represents remaining other (λ h. bare) cr)
   ]
-  | inr none ↦ shows BadChunkLine x d b (size_shows count size b x d represents room other (λ h. absurd (omega arith)) cr)
+  | inr none ↦ shows BadChunkLine x d b (size_shows count size b x d represents remaining other (λ h. absurd (omega arith)) cr)
 ]
 
 a_digit : (count size b : ℕ) (x d : List ℕ) → PhaseRepresents (Size count size) x d → count < MAX_CHUNK_LINE → digit_value b < 16 → Answer x d b
-a_digit count size b x d represents room digit = elim (cases_lt (size * 16 + digit_value b) (2 ^ 64)) [
-  | inl fits ↦ quietly (Size (count + 1) (size * 16 + digit_value b)) x d b (digit_kept count size (digit_value b) b x d represents room refl digit fits)
-  | inr over ↦ shows ChunkTooLarge x d b (digit_too_large count size (digit_value b) b x d represents room refl digit over)
+a_digit count size b x d represents remaining digit = elim (cases_lt (size * 16 + digit_value b) (2 ^ 64)) [
+  | inl fits ↦ quietly (Size (count + 1) (size * 16 + digit_value b)) x d b (digit_kept count size (digit_value b) b x d represents remaining refl digit fits)
+  | inr over ↦ shows ChunkTooLarge x d b (digit_too_large count size (digit_value b) b x d represents remaining refl digit over)
 ]
 
 full_size : (count size b : ℕ) (x d : List ℕ) → PhaseRepresents (Size count size) x d → MAX_CHUNK_LINE ≤ count → b ≢ 13 → Answer x d b
@@ -84,9 +84,9 @@ behind_size count size b x d represents = elim (cases_eq b 13) [
     | inr none ↦ let value = ap digit_value cr in no_digit count size b x d represents (omega arith) (omega arith) (λ some. absurd (omega arith))
   ]
   | inr other ↦ elim (cases_lt count MAX_CHUNK_LINE) [
-    | inl room ↦ elim (cases_lt (digit_value b) 16) [
-      | inl digit ↦ a_digit count size b x d represents room digit
-      | inr none ↦ no_digit count size b x d represents room none (λ some. other)
+    | inl remaining ↦ elim (cases_lt (digit_value b) 16) [
+      | inl digit ↦ a_digit count size b x d represents remaining digit
+      | inr none ↦ no_digit count size b x d represents remaining none (λ some. other)
     ]
     | inr full ↦ full_size count size b x d represents full other
   ]
@@ -97,8 +97,8 @@ behind_extension count size b x d (l, part, len, value) = elim (cases_eq b 13) [
   | inl cr ↦ quietly_at (LineEnd size) x d b 13 cr
       (l, record { line = part.line; spelt = ap (λ (y : List ℕ). y ++ 13 ∷ []) part.spelt; empty = part.empty }, value)
   | inr other ↦ elim (cases_lt count MAX_CHUNK_LINE) [
-    | inl room ↦ elim (byte_or_not b) [
-      | inl is ↦ quietly (Extension (count + 1) size) x d b (extension_kept count size b x d (l, part, len, value) room is)
+    | inl remaining ↦ elim (byte_or_not b) [
+      | inl is ↦ quietly (Extension (count + 1) size) x d b (extension_kept count size b x d (l, part, len, value) remaining is)
       | inr bare ↦ shows BadChunkLine x d b (inr (inl (l, part, omega arith, bare, other)))
     ]
     | inr full ↦
@@ -189,7 +189,7 @@ behind_trailers used b x d (l, ts, t, part, len, none) = elim (cases_eq b 13) [
   | inr no_cr ↦ elim (cases_eq b 10) [
     | inl lf ↦ shows BadChunkEnd x d b (inr (inr (inl (l, ts, t, part, lf, inl none))))
     | inr no_lf ↦ elim (cases_lt used MAX_TRAILERS) [
-      | inl room ↦ quietly (Trailer (used + 1) true) x d b (trailer_kept used b false x d (l, ts, t, part, len, none) room (no_cr, no_lf))
+      | inl remaining ↦ quietly (Trailer (used + 1) true) x d b (trailer_kept used b false x d (l, ts, t, part, len, none) remaining (no_cr, no_lf))
       | inr full ↦ let short = part.short in shows TrailersTooLong x d b (inl (l, ts, t, part, omega arith, λ h. (no_cr, no_lf)))
     ]
   ]
@@ -197,7 +197,7 @@ behind_trailers used b x d (l, ts, t, part, len, none) = elim (cases_eq b 13) [
 
 behind_trailer : (used b : ℕ) (x d : List ℕ) → PhaseRepresents (Trailer used true) x d → Answer x d b
 behind_trailer used b x d (l, ts, t, part, len, some) = elim (cases_lt used MAX_TRAILERS) [
-  | inl room ↦ elim (cases_eq b 13) [
+  | inl remaining ↦ elim (cases_eq b 13) [
     | inl cr ↦
         let ended : AfterTrailer l ts t (x ++ 13 ∷ []) d = record {
           ends = part.ends;
@@ -209,7 +209,7 @@ behind_trailer used b x d (l, ts, t, part, len, some) = elim (cases_lt used MAX_
         quietly_at (TrailerEnd (used + 1)) x d b 13 cr (l, ts, t, ended, omega arith)
     | inr no_cr ↦ elim (cases_eq b 10) [
       | inl lf ↦ shows BadChunkEnd x d b (inr (inr (inl (l, ts, t, part, lf, inr (omega arith)))))
-      | inr no_lf ↦ quietly (Trailer (used + 1) true) x d b (trailer_kept used b true x d (l, ts, t, part, len, some) room (no_cr, no_lf))
+      | inr no_lf ↦ quietly (Trailer (used + 1) true) x d b (trailer_kept used b true x d (l, ts, t, part, len, some) remaining (no_cr, no_lf))
     ]
   ]
   | inr full ↦
@@ -219,8 +219,8 @@ behind_trailer used b x d (l, ts, t, part, len, some) = elim (cases_lt used MAX_
 
 behind_trailer_cr : (used b : ℕ) (x d : List ℕ) → PhaseRepresents (TrailerEnd used) x d → Answer x d b
 behind_trailer_cr used b x d (l, ts, t, part, len) = elim (cases_lt used MAX_TRAILERS) [
-  | inl room ↦ elim (cases_eq b 10) [
-    | inl lf ↦ quietly_at (Trailer (used + 1) false) x d b 10 lf (trailer_ends used x d (l, ts, t, part, len) room)
+  | inl remaining ↦ elim (cases_eq b 10) [
+    | inl lf ↦ quietly_at (Trailer (used + 1) false) x d b 10 lf (trailer_ends used x d (l, ts, t, part, len) remaining)
     | inr other ↦ shows BadChunkEnd x d b (inr (inr (inr (inl (l, ts, t, part, other, omega arith)))))
   ]
   | inr full ↦ let short = part.short in shows TrailersTooLong x d b (inr (l, ts, t, part, omega arith))

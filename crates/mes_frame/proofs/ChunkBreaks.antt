@@ -22,13 +22,13 @@ pub record Breaks (x d : List ℕ) (b : ℕ) (fault : FrameFault) : Type 0 where
   pub step : after phase b ≡ fail fault
 
 bad_size : (x d : List ℕ) (b : ℕ) → InSize x d → length x < MAX_CHUNK_LINE → EndsNoSize x b → Breaks x d b BadChunkLine
-bad_size [] d b part room ends = record { phase = Size 0 0; represents = (part, refl, refl); step = at_bad_first 0 b ends.0 }
-bad_size (c ∷ x) d b part room ends =
+bad_size [] d b part remaining ends = record { phase = Size 0 0; represents = (part, refl, refl); step = at_bad_first 0 b ends.0 }
+bad_size (c ∷ x) d b part remaining ends =
     let goes_on = ends.1 (omega arith) in
     record {
       phase = Size (length (c ∷ x)) (digits_value 16 (c ∷ x));
       represents = (part, refl, refl);
-      step = at_bad_size (length (c ∷ x)) (digits_value 16 (c ∷ x)) b room ends.0 goes_on.0 goes_on.1;
+      step = at_bad_size (length (c ∷ x)) (digits_value 16 (c ∷ x)) b remaining ends.0 goes_on.0 goes_on.1;
     }
 
 bad_line : (x d : List ℕ) (b : ℕ) → ShowsBadLine x d b → Breaks x d b BadChunkLine
@@ -51,23 +51,23 @@ long_line x d b shows = elim shows [
 ]
 
 large_chunk : (x d : List ℕ) (b : ℕ) → ShowsLargeChunk x d b → Breaks x d b ChunkTooLarge
-large_chunk x d b (part, room, digit, over) =
+large_chunk x d b (part, remaining, digit, over) =
     let sum = digits_value_push 16 x b in
     record {
       phase = Size (length x) (digits_value 16 x);
       represents = (part, refl, refl);
-      step = at_large (length x) (digits_value 16 x) b digit room (omega arith);
+      step = at_large (length x) (digits_value 16 x) b digit remaining (omega arith);
     }
 
 bad_trailer : (l : Line) (ts : List (List ℕ)) (t x d : List ℕ) (b : ℕ) → InTrailer l ts t x d → b ≡ 10 → (t ≡ []) ⊎ (length (trailers_bytes ts) + length t < MAX_TRAILERS) → Breaks x d b BadChunkEnd
-bad_trailer l ts [] x d b part lf room = record {
+bad_trailer l ts [] x d b part lf remaining = record {
   phase = Trailer (length (trailers_bytes ts) + 0) false;
   represents = (l, ts, [], part, refl, refl);
   step = subst (λ (c : ℕ). after (Trailer (length (trailers_bytes ts) + 0) false) c ≡ fail BadChunkEnd) (sym lf) (at_bare_first (length (trailers_bytes ts) + 0));
 }
-bad_trailer l ts (c ∷ t) x d b part lf room =
+bad_trailer l ts (c ∷ t) x d b part lf remaining =
     let used : ℕ = length (trailers_bytes ts) + length (c ∷ t) in
-    let some : used < MAX_TRAILERS = elim room [ inl h ↦ let clash = ap length h in absurd (omega arith) | inr h ↦ h ] in
+    let some : used < MAX_TRAILERS = elim remaining [ inl h ↦ let clash = ap length h in absurd (omega arith) | inr h ↦ h ] in
     record {
       phase = Trailer used true;
       represents = (l, ts, c ∷ t, part, refl, omega arith);

@@ -32,11 +32,11 @@ begins_no_digit b h = grind (arith, nat_tests)
 
 pub at_digit : (count size b : ℕ) → digit_value b < 16 → count < MAX_CHUNK_LINE → size * 16 + digit_value b < 2 ^ 64 → after (Size count size) b ≡ quiet (Size (count + 1) (size * 16 + digit_value b))
 unfolding after
-at_digit count size b digit room fits = let cr : b ≡ 13 → digit_value b ≡ 36 = λ e. ap digit_value e in grind (arith, nat_tests)
+at_digit count size b digit remaining fits = let cr : b ≡ 13 → digit_value b ≡ 36 = λ e. ap digit_value e in grind (arith, nat_tests)
 
 pub at_large : (count size b : ℕ) → digit_value b < 16 → count < MAX_CHUNK_LINE → 2 ^ 64 ≤ size * 16 + digit_value b → after (Size count size) b ≡ fail ChunkTooLarge
 unfolding after
-at_large count size b digit room over = let cr : b ≡ 13 → digit_value b ≡ 36 = λ e. ap digit_value e in grind (arith, nat_tests)
+at_large count size b digit remaining over = let cr : b ≡ 13 → digit_value b ≡ 36 = λ e. ap digit_value e in grind (arith, nat_tests)
 
 pub at_size_end : (count size : ℕ) → 0 < count → after (Size count size) 13 ≡ quiet (LineEnd size)
 unfolding after
@@ -44,7 +44,7 @@ at_size_end count size some = grind (arith, nat_tests)
 
 pub at_extension : (count size b : ℕ) → 0 < count → count < MAX_CHUNK_LINE → BeginsExtension b → after (Size count size) b ≡ quiet (Extension (count + 1) size)
 unfolding after
-at_extension count size b some room begins =
+at_extension count size b some remaining begins =
     let is = begins_is b begins in
     let no_digit = begins_no_digit b begins in
     let cr : b ≡ 13 → BeginsExtension 13 = λ e. subst BeginsExtension e begins in
@@ -60,11 +60,11 @@ at_bad_first size b other = grind (arith, nat_tests)
 
 pub at_bad_size : (count size b : ℕ) → count < MAX_CHUNK_LINE → 16 ≤ digit_value b → (BeginsExtension b → ⊥) → b ≢ 13 → after (Size count size) b ≡ fail BadChunkLine
 unfolding after
-at_bad_size count size b room no_digit bare no_end = let is = begins_not b bare in grind (arith, nat_tests)
+at_bad_size count size b remaining no_digit bare no_end = let is = begins_not b bare in grind (arith, nat_tests)
 
 pub at_rest : (count size b : ℕ) → count < MAX_CHUNK_LINE → IsExtensionByte b → after (Extension count size) b ≡ quiet (Extension (count + 1) size)
 unfolding after
-at_rest count size b room byte =
+at_rest count size b remaining byte =
     let is = byte_is b byte in
     let cr : b ≡ 13 → IsExtensionByte 13 = λ e. subst IsExtensionByte e byte in
     grind (arith, nat_tests)
@@ -79,7 +79,7 @@ at_long_rest count size b full other = grind (arith, nat_tests)
 
 pub at_bad_rest : (count size b : ℕ) → count < MAX_CHUNK_LINE → (IsExtensionByte b → ⊥) → b ≢ 13 → after (Extension count size) b ≡ fail BadChunkLine
 unfolding after
-at_bad_rest count size b room bare no_end = let is = byte_not b bare in grind (arith, nat_tests)
+at_bad_rest count size b remaining bare no_end = let is = byte_not b bare in grind (arith, nat_tests)
 
 pub at_line : (size : ℕ) → 0 < size → after (LineEnd size) 10 ≡ quiet (Data size)
 unfolding after
@@ -115,11 +115,11 @@ at_bad_chunk b other = grind (arith, nat_tests)
 
 pub at_trailer : (used b : ℕ) (begun : Bool) → used < MAX_TRAILERS → IsPlain b → after (Trailer used begun) b ≡ quiet (Trailer (used + 1) true)
 unfolding after
-at_trailer used b begun room plain = grind (arith, nat_tests)
+at_trailer used b begun remaining plain = grind (arith, nat_tests)
 
 pub at_trailer_end : (used : ℕ) → used < MAX_TRAILERS → after (Trailer used true) 13 ≡ quiet (TrailerEnd (used + 1))
 unfolding after
-at_trailer_end used room = grind (arith, nat_tests)
+at_trailer_end used remaining = grind (arith, nat_tests)
 
 pub at_empty : (used : ℕ) → after (Trailer used false) 13 ≡ quiet End
 unfolding after
@@ -131,7 +131,7 @@ at_bare_first used = refl
 
 pub at_bare : (used : ℕ) → used < MAX_TRAILERS → after (Trailer used true) 10 ≡ fail BadChunkEnd
 unfolding after
-at_bare used room = grind (arith, nat_tests)
+at_bare used remaining = grind (arith, nat_tests)
 
 pub at_long_first : (used b : ℕ) → MAX_TRAILERS ≤ used → IsPlain b → after (Trailer used false) b ≡ fail TrailersTooLong
 unfolding after
@@ -143,7 +143,7 @@ at_long used b full = grind (arith, nat_tests)
 
 pub at_line_of : (used : ℕ) → used < MAX_TRAILERS → after (TrailerEnd used) 10 ≡ quiet (Trailer (used + 1) false)
 unfolding after
-at_line_of used room = grind (arith, nat_tests)
+at_line_of used remaining = grind (arith, nat_tests)
 
 pub at_long_end : (used b : ℕ) → MAX_TRAILERS ≤ used → after (TrailerEnd used) b ≡ fail TrailersTooLong
 unfolding after
@@ -151,7 +151,7 @@ at_long_end used b full = grind (arith, nat_tests)
 
 pub at_bad_end : (used b : ℕ) → used < MAX_TRAILERS → b ≢ 10 → after (TrailerEnd used) b ≡ fail BadChunkEnd
 unfolding after
-at_bad_end used b room other = grind (arith, nat_tests)
+at_bad_end used b remaining other = grind (arith, nat_tests)
 
 pub at_end : ◌≡◌ {A = Phase × ChunkOut} (after End 10) (Closed, out.Closed)
 unfolding after

@@ -135,7 +135,7 @@ run_at (Failed fault) x d p represents fits = absurd represents
 -- every prefix of the skipped data leaves an open body
 pub fronts_of : (s : ChunkState) (w body p : List ℕ) (k count : ℕ) → count ≤ remaining_of s → length p ≡ count → k ≤ count → ChunkRepresents s w body → IsOpen (w ++ take k p) (body ++ take k p)
 unfolding ChunkRepresents
-fronts_of s w body p k count room len front represents =
+fronts_of s w body p k count remaining len front represents =
     let short : length (take k p) ≡ k = grind (arith, common_steps) in
     following w body (take k p) (take k p) represents (run_at s.phase represents.part represents.represents (take k p) represents.is (omega arith))
 

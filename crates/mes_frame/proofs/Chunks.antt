@@ -20,7 +20,7 @@ all_append P [] ys first second = second
 all_append P (x ∷ xs) ys first second = (first.0, all_append P xs ys first.1 second)
 
 pub digit_kept : (count size digit b : ℕ) (x d : List ℕ) → PhaseRepresents (Size count size) x d → count < MAX_CHUNK_LINE → digit_value b ≡ digit → digit < 16 → size * 16 + digit < 2 ^ 64 → PhaseRepresents (Size (count + 1) (size * 16 + digit)) (x ++ b ∷ []) d
-digit_kept count size digit b x d represents room is small fits =
+digit_kept count size digit b x d represents remaining is small fits =
     let len = length-append x (b ∷ []) in
     let sum = digits_value_push 16 x b in
     let kept : InSize (x ++ b ∷ []) d = record {
@@ -32,12 +32,12 @@ digit_kept count size digit b x d represents room is small fits =
     (kept, omega arith, omega arith)
 
 pub digit_too_large : (count size digit b : ℕ) (x d : List ℕ) → PhaseRepresents (Size count size) x d → count < MAX_CHUNK_LINE → digit_value b ≡ digit → digit < 16 → 2 ^ 64 ≤ size * 16 + digit → ShowsLargeChunk x d b
-digit_too_large count size digit b x d represents room is small large =
+digit_too_large count size digit b x d represents remaining is small large =
     let sum = digits_value_push 16 x b in
     (represents.0, omega arith, omega arith, omega arith)
 
 pub size_shows : (count size b : ℕ) (x d : List ℕ) → PhaseRepresents (Size count size) x d → count < MAX_CHUNK_LINE → 16 ≤ digit_value b → (0 < count → BeginsExtension b → ⊥) → (0 < count → b ≡ 13 → ⊥) → ShowsBadLine x d b
-size_shows count size b x d represents room other begins cr = inl (represents.0, omega arith, (other, λ some. (begins (omega arith), cr (omega arith))))
+size_shows count size b x d represents remaining other begins cr = inl (represents.0, omega arith, (other, λ some. (begins (omega arith), cr (omega arith))))
 
 size_line : (x d : List ℕ) → InSize x d → 0 < length x → IsLine (record { size = x; extension = [] })
 size_line x d in_size some = record {
@@ -59,7 +59,7 @@ size_ends count size x d represents some =
     (l, after, represents.2)
 
 pub extension_begins : (count size b : ℕ) (x d : List ℕ) → PhaseRepresents (Size count size) x d → 0 < count → count < MAX_CHUNK_LINE → BeginsExtension b → PhaseRepresents (Extension (count + 1) size) (x ++ b ∷ []) d
-extension_begins count size b x d represents some room begins =
+extension_begins count size b x d represents some remaining begins =
     let len = length-append x (b ∷ []) in
     let l : Line = record { size = x; extension = b ∷ [] } in
     let line : IsLine l = record {
@@ -77,7 +77,7 @@ extension_push [] b extension some is = absurd (omega arith)
 extension_push (a ∷ e) b extension some is = (extension.0, all_push IsExtensionByte e b extension.1 is)
 
 pub extension_kept : (count size b : ℕ) (x d : List ℕ) → PhaseRepresents (Extension count size) x d → count < MAX_CHUNK_LINE → IsExtensionByte b → PhaseRepresents (Extension (count + 1) size) (x ++ b ∷ []) d
-extension_kept count size b x d (l, old, count-is, size-is) room is =
+extension_kept count size b x d (l, old, count-is, size-is) remaining is =
     let len = length-append x (b ∷ []) in
     let more = length-append l.extension (b ∷ []) in
     let whole = length-append l.size l.extension in
@@ -167,7 +167,7 @@ trailers_begin x d (l, old, size-is) =
     (l, [], [], begun, refl, refl)
 
 pub trailer_kept : (used b : ℕ) (begun : Bool) (x d : List ℕ) → PhaseRepresents (Trailer used begun) x d → used < MAX_TRAILERS → IsPlain b → PhaseRepresents (Trailer (used + 1) true) (x ++ b ∷ []) d
-trailer_kept used b begun x d (l, ts, t, old, used-is, begun-is) room plain =
+trailer_kept used b begun x d (l, ts, t, old, used-is, begun-is) remaining plain =
     let len = length-append t (b ∷ []) in
     let within : InTrailer l ts (t ++ b ∷ []) (x ++ b ∷ []) d = record {
       ends = old.ends;
@@ -179,7 +179,7 @@ trailer_kept used b begun x d (l, ts, t, old, used-is, begun-is) room plain =
     (l, ts, t ++ b ∷ [], within, omega arith, omega arith)
 
 pub trailer_returns : (used : ℕ) (x d : List ℕ) → PhaseRepresents (Trailer used true) x d → used < MAX_TRAILERS → PhaseRepresents (TrailerEnd (used + 1)) (x ++ 13 ∷ []) d
-trailer_returns used x d (l, ts, t, old, used-is, begun-is) room =
+trailer_returns used x d (l, ts, t, old, used-is, begun-is) remaining =
     let after : AfterTrailer l ts t (x ++ 13 ∷ []) d = record {
       ends = old.ends;
       is_trailer = (begun-is, old.plain);
@@ -195,7 +195,7 @@ ending_push l ts t =
     ∙ ap (λ (y : List ℕ). line_bytes l ++ y) (flat_map_more trailer_bytes (13 ∷ 10 ∷ []) ts t)
 
 pub trailer_ends : (used : ℕ) (x d : List ℕ) → PhaseRepresents (TrailerEnd used) x d → used < MAX_TRAILERS → PhaseRepresents (Trailer (used + 1) false) (x ++ 10 ∷ []) d
-trailer_ends used x d (l, ts, t, old, used-is) room =
+trailer_ends used x d (l, ts, t, old, used-is) remaining =
     let len = length-append t (13 ∷ 10 ∷ []) in
     let sum = length-append (trailers_bytes ts) (trailer_bytes t) in
     let more = ap length (flat_map_more trailer_bytes [] ts t) in

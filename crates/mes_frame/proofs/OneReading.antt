@@ -180,14 +180,14 @@ split n [] = record { x = []; rest = []; digits = tt; few = omega arith; whole =
 split n (c ∷ w) =
     elim (cases_lt (digit_value c) 10) [
       | inl digit ↦ elim (cases_lt 0 n) [
-        | inl room ↦ let more = split (n - 1) w in let few = more.few in
+        | inl remaining ↦ let more = split (n - 1) w in let few = more.few in
             record {
               x = c ∷ more.x;
               rest = more.rest;
               digits = (digit, more.digits);
               few = omega arith;
               whole = ap (λ (y : List ℕ). c ∷ y) more.whole;
-              stops = stops_more n c more.x more.rest room more.stops;
+              stops = stops_more n c more.x more.rest remaining more.stops;
             }
         | inr none ↦ record { x = []; rest = c ∷ w; digits = tt; few = omega arith; whole = refl; stops = inr (omega arith) }
       ]

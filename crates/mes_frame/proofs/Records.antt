@@ -19,7 +19,7 @@ pub digit_value_is : (b : ℕ) → digit_value b < 10 → digit_value b ≡ b - 
 digit_value_is b digit = grind (arith, nat_tests)
 
 pub digit_kept : (digits value times digit new b : ℕ) (x r : List ℕ) → SizeKept digits value x r → digits < 20 → digit_value b < 10 → times ≡ min (value * 10) (2 ^ 32 - 1) → digit ≡ b - 48 → new ≡ min (times + digit) (2 ^ 32 - 1) → SizeKept (digits + 1) new (x ++ b ∷ []) r
-digit_kept digits value times digit new b x r kept room decimal times-is digit-is new-is =
+digit_kept digits value times digit new b x r kept remaining decimal times-is digit-is new-is =
     let len = length-append x (b ∷ []) in
     let sum = digits_value_push 10 x b in
     let is = digit_value_is b decimal in

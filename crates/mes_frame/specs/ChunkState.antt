@@ -96,9 +96,9 @@ ChunkSteps new w body b out.TheVariants.Byte = ChunkRepresents new (w ++ b ∷ [
 ChunkSteps new w body b out.TheVariants.Closed = IsChunked (w ++ b ∷ []) body × (end_of new ≡ Some out.TheVariants.Closed)
 ChunkSteps new w body b (out.TheVariants.Fault fault) = ChunkShows w body b fault × (end_of new ≡ Some (out.TheVariants.Fault fault))
 
--- a byte is data if and only if `room` was not 0 before it
+-- a byte is data if and only if `remaining` was not 0 before it
 abbrev pub OutWith : ℕ → out.ChunkOut → Type 0
-OutWith room out.TheVariants.Quiet = room ≡ 0
-OutWith room out.TheVariants.Byte = 0 < room
-OutWith room out.TheVariants.Closed = room ≡ 0
-OutWith room (out.TheVariants.Fault fault) = room ≡ 0
+OutWith remaining out.TheVariants.Quiet = remaining ≡ 0
+OutWith remaining out.TheVariants.Byte = 0 < remaining
+OutWith remaining out.TheVariants.Closed = remaining ≡ 0
+OutWith remaining (out.TheVariants.Fault fault) = remaining ≡ 0

@@ -24,10 +24,10 @@ pub record SourceIs (bytes : List ℕ) (most good : ℕ) (s : MemorySource) : Ty
 -- a call returns as many bytes as it may, at least one, and fails if and only if no good bytes are
 -- left
 abbrev pub SourceGives : {E : Type 0} → MemorySource → MemorySource → ℕ → Result ℕ E → Type 0
-SourceGives old new room (Ok n) =
-    (0 < old.good) × (n ≡ min (min (max old.most 1) old.good) (min room (length old.bytes.now)))
+SourceGives old new remaining (Ok n) =
+    (0 < old.good) × (n ≡ min (min (max old.most 1) old.good) (min remaining (length old.bytes.now)))
     × (new.most ≡ old.most) × (new.good ≡ old.good - n)
-SourceGives old new room (Err e) = (old.good ≡ 0) × (new.most ≡ old.most) × (new.good ≡ old.good)
+SourceGives old new remaining (Err e) = (old.good ≡ 0) × (new.most ≡ old.most) × (new.good ≡ old.good)
 
 -- the bytes that a writer has written
 abbrev pub written_of : MemorySink → Option (List ℕ)

@@ -60,12 +60,12 @@ RecordSteps new x r b (Byte false) = RecordStands new (x ++ b ∷ []) (r ++ b �
 RecordSteps new x r b (Byte true) = IsRecord (x ++ b ∷ []) (r ++ b ∷ []) (limit_of new) × RecordStands new [] []
 RecordSteps new x r b (Fault fault) = SizeShows x b (limit_of new) fault × (fault_of new ≡ Some fault)
 
--- a byte is data if and only if `room` was not 0 before it
+-- a byte is data if and only if `remaining` was not 0 before it
 abbrev pub OutWith : ℕ → RecordOut → Type 0
-OutWith room Quiet = room ≡ 0
-OutWith room Empty = room ≡ 0
-OutWith room (Byte last) = 0 < room
-OutWith room (Fault fault) = room ≡ 0
+OutWith remaining Quiet = remaining ≡ 0
+OutWith remaining Empty = remaining ≡ 0
+OutWith remaining (Byte last) = 0 < remaining
+OutWith remaining (Fault fault) = remaining ≡ 0
 
 -- skipping the data p after x with the data r: the flag says if the record ended
 abbrev pub RecordPasses : RecordState → List ℕ → List ℕ → List ℕ → Bool → Type 0

@@ -70,7 +70,7 @@ impl ChunkState {
         ensures steps { (w body : List ℕ) → ChunkRepresents self.old w body
             → ChunkSteps self.new w body byte result }
 
-        // The byte is data if and only if `room` was not 0 before the step.
+        // The byte is data if and only if `remaining` was not 0 before the step.
         ensures data { OutWith (remaining_of self.old) result }
 
         // After the end or a fault, every step returns the same result and changes nothing.
@@ -105,7 +105,7 @@ impl ChunkState {
     }
 
     /// Returns how many of the next bytes are data: 0 in the framing, at the end and after a fault.
-    pub fn room(&self) -> u64
+    pub fn remaining(&self) -> u64
         ensures { result ≡ remaining_of self.now }
     {
         match self.phase {
@@ -115,9 +115,9 @@ impl ChunkState {
     }
 
     /// Skips the next `count` bytes, all of them data, with the effect of `count` steps. `count` is
-    /// at most [`ChunkState::room`].
+    /// at most [`ChunkState::remaining`].
     pub fn pass(&mut self, count: u64)
-        requires room { count ≤ remaining_of self.old }
+        requires remaining { count ≤ remaining_of self.old }
         // The skipped bytes p are added to the bytes so far (w) and to their data.
         ensures passes { (w body p : List ℕ) → length p ≡ count → ChunkRepresents self.old w body
             → ChunkRepresents self.new (w ++ p) (body ++ p) }
@@ -125,7 +125,7 @@ impl ChunkState {
         // Every prefix of the skipped bytes leaves an open body.
         ensures fronts { (w body p : List ℕ) (k : ℕ) → length p ≡ count → k ≤ count
             → ChunkRepresents self.old w body → IsOpen (w ++ take k p) (body ++ take k p) }
-        ensures room { remaining_of self.new + count ≡ remaining_of self.old }
+        ensures remaining { remaining_of self.new + count ≡ remaining_of self.old }
 
         // The state after the end of the body, or after a fault, is unchanged.
         ensures end { end_of self.new ≡ end_of self.old }
@@ -264,7 +264,7 @@ fn after_size(count: u16, size: u64, byte: u8) -> (Phase, ChunkOut)
 // Returns the phase after a digit of a chunk's size, in a line with room for one more byte.
 fn after_digit(count: u16, size: u64, byte: u8, digit: u8) -> (Phase, ChunkOut)
     requires digit { (digit_value byte ≡ digit) × (digit < 16) }
-    requires room { count < MAX_CHUNK_LINE }
+    requires remaining { count < MAX_CHUNK_LINE }
     ensures steps { (x d : List ℕ) → PhaseRepresents (Phase.Size count size) x d
         → PhaseSteps result.0 x d byte result.1 }
     ensures data { OutWith 0 result.1 }

@@ -64,7 +64,7 @@ impl RecordState {
         ensures steps { (x r : List ℕ) → RecordStands self.old x r
             → RecordSteps self.new x r byte result }
 
-        // The byte is data if and only if `room` was not 0 before the step.
+        // The byte is data if and only if `remaining` was not 0 before the step.
         ensures data { (x r : List ℕ) → RecordStands self.old x r
             → OutWith (remaining_of self.old) result }
 
@@ -96,7 +96,7 @@ impl RecordState {
 
     /// Returns how many of the next bytes are data of the record: 0 in a size line and after a
     /// fault.
-    pub fn room(&self) -> usize
+    pub fn remaining(&self) -> usize
         ensures value { result ≡ remaining_of self.now }
         // If the result is not 0, the current record needs exactly that many more bytes of data.
         ensures some { (x r : List ℕ) → RecordStands self.now x r → 0 < result
@@ -113,9 +113,9 @@ impl RecordState {
     }
 
     /// Skips the next `count` bytes, all of them data, with the effect of `count` steps. Returns
-    /// whether the record ended. `count` is at most [`RecordState::room`].
+    /// whether the record ended. `count` is at most [`RecordState::remaining`].
     pub fn pass(&mut self, count: usize) -> bool
-        requires room { count ≤ remaining_of self.old }
+        requires remaining { count ≤ remaining_of self.old }
         // The skipped bytes p are added to the record's bytes x and to its data r.
         ensures passes { (x r p : List ℕ) → length p ≡ count → RecordStands self.old x r
             → RecordPasses self.new x r p result }
@@ -124,7 +124,7 @@ impl RecordState {
         ensures fronts { (x r p : List ℕ) (k : ℕ) → length p ≡ count → k < count
             → RecordStands self.old x r → Begun (x ++ take k p) (r
             ++ take k p) (limit_of self.old) }
-        ensures room { remaining_of self.new + count ≡ remaining_of self.old }
+        ensures remaining { remaining_of self.new + count ≡ remaining_of self.old }
         ensures none { count ≡ 0 → (result ≡ false) × (self.new ≡ self.old) }
 
         // The limit is unchanged.

@@ -24,7 +24,7 @@ fn room_behind(text: &[u8]) -> u64 {
     for byte in text {
         state.step(*byte);
     }
-    state.room()
+    state.remaining()
 }
 
 // Bodies, and for each the number of bytes up to its end or error, and the result there.
@@ -74,9 +74,9 @@ const ROOMS: [(&[u8], u64); 5] = [
 
 #[test]
 fn chunks_have_room_for_their_data(rt: HostRuntime) {
-    for &(front, room) in &ROOMS {
+    for &(front, remaining) in &ROOMS {
         let text = as_text(front);
-        assert_eq!(rt; room_behind(front), room, "{text:?}");
+        assert_eq!(rt; room_behind(front), remaining, "{text:?}");
     }
 }
 
@@ -110,15 +110,15 @@ const LONG: [(&[&[u8]], &str, u64); 9] = [
 // that are expected next.
 fn end_and_room(alloc: Global, parts: &[&[u8]]) -> Result<(String, u64), AllocError> {
     let body = parts.concat(alloc)?;
-    let room = room_behind(&body);
-    Ok((told_end(alloc, first_end(&body))?, room))
+    let remaining = room_behind(&body);
+    Ok((told_end(alloc, first_end(&body))?, remaining))
 }
 
 #[test]
 fn lines_and_trailers_have_a_limit(rt: HostRuntime) -> Result<(), AllocError> {
-    for &(parts, end, room) in &LONG {
+    for &(parts, end, remaining) in &LONG {
         let (reported, left) = end_and_room(rt.alloc(), parts)?;
-        assert_eq!(rt; (reported.as_str(), left), (end, room));
+        assert_eq!(rt; (reported.as_str(), left), (end, remaining));
     }
     Ok(())
 }
@@ -136,13 +136,13 @@ fn steps<const N: usize>(state: &mut ChunkState, bytes: &[u8; N]) -> [ChunkOut; 
 fn an_end_is_returned_again(rt: HostRuntime) {
     let mut broken = ChunkState::new();
     assert_eq!(rt;
-        (steps(&mut broken, b"g1\r"), broken.room()),
+        (steps(&mut broken, b"g1\r"), broken.remaining()),
         ([ChunkOut::Fault(FrameFault::BadChunkLine); 3], 0)
     );
     let mut closed = ChunkState::new();
     assert_eq!(rt; steps(&mut closed, b"0\r\n\r"), [ChunkOut::Quiet; 4]);
     assert_eq!(rt;
-        (steps(&mut closed, b"\n1\r\nx"), closed.room()),
+        (steps(&mut closed, b"\n1\r\nx"), closed.remaining()),
         ([ChunkOut::Closed; 5], 0)
     );
 }
@@ -155,11 +155,11 @@ fn data_of_chunks_passes_in_runs(rt: HostRuntime) {
     assert_eq!(rt; steps(&mut run, b"5\r\n"), [ChunkOut::Quiet; 3]);
     let mut stepped = run;
     assert_eq!(rt;
-        (steps(&mut stepped, b"\r\n0"), run.room()),
+        (steps(&mut stepped, b"\r\n0"), run.remaining()),
         ([ChunkOut::Byte; 3], 5)
     );
     run.pass(3);
-    assert_eq!(rt; [run.room(), stepped.room()], [2, 2]);
+    assert_eq!(rt; [run.remaining(), stepped.remaining()], [2, 2]);
     assert_eq!(rt; steps(&mut run, b"de"), [ChunkOut::Byte; 2]);
     stepped.pass(2);
     let quiet = [ChunkOut::Quiet; 6];
@@ -187,7 +187,7 @@ fn read_pieces(
     for piece in pieces {
         let mut rest = piece;
         for _ in 0..piece.len() {
-            let count = (rest.len() as u64).min(state.room());
+            let count = (rest.len() as u64).min(state.remaining());
             state.pass(count);
             let (run, more) = rest.split_at(count as usize);
             body.extend_from_slice(run)?;

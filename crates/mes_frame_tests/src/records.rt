@@ -85,7 +85,7 @@ const BAD: RecordOut = RecordOut::Fault(FrameFault::BadSizeLine);
 fn a_fault_is_returned_again(rt: HostRuntime) {
     let mut state = RecordState::new(Limit::USUAL);
     assert_eq!(rt; [state.step(b'x'), state.step(b'1')], [BAD, BAD]);
-    assert_eq!(rt; (state.between(), state.room()), (false, 0));
+    assert_eq!(rt; (state.between(), state.remaining()), (false, 0));
 }
 
 #[test]
@@ -96,13 +96,13 @@ fn data_passes_in_runs(rt: HostRuntime) {
         (state.step(b'5'), state.between(), state.step(b'\n')),
         (RecordOut::Quiet, false, RecordOut::Quiet)
     );
-    assert_eq!(rt; state.room(), 5);
+    assert_eq!(rt; state.remaining(), 5);
     assert!(rt; !state.pass(3));
     assert_eq!(rt;
-        (state.room(), state.step(b'd')),
+        (state.remaining(), state.step(b'd')),
         (2, RecordOut::Byte { last: false })
     );
-    assert_eq!(rt; state.room(), 1);
+    assert_eq!(rt; state.remaining(), 1);
     assert!(rt; state.pass(1));
     assert!(rt; state.between());
 }

@@ -40,7 +40,7 @@ impl<const VERSION: u8> RecordReader for EntryReader<VERSION> {
 
     ghost kept = { λ reader. kept_text reader.lettered };
 
-    ghost room = { inner };
+    ghost max_held = { inner };
 
     fn push_run(&mut self, bytes: &[u8]) -> Result<(), NoMemoryAt> {
         self.lettered.push_run(bytes)

@@ -61,14 +61,14 @@ module _ {R E : Type 0} (holds : R → List ℕ → Type 0) (spells : List ℕ �
   -- the bytes up to a byte of data in a chunk are a prefix of a stream
   pub run_before : (d : ChunkedBody R) (limit : ℕ) (w run : List ℕ) (values : List E) (n count : ℕ) (s : ChunkedRepresents holds spells ahead d w values) → length run ≡ count → count ≤ remaining_of d.chunks → n ≤ count
       → BodyLive spells limit (s.content ++ take n run) values → Live spells limit (w ++ take n run) values
-  run_before d limit w run values n count s len room within live =
-      (s.content ++ take n run, fronts_of d.chunks w s.content run n count room len within s.chunks, live)
+  run_before d limit w run values n count s len remaining within live =
+      (s.content ++ take n run, fronts_of d.chunks w s.content run n count remaining len within s.chunks, live)
 
   -- a byte of data in a chunk is a byte of the body: `AtData` holds for it
   pub run_at : (d : ChunkedBody R) (w run : List ℕ) (values : List E) (used count : ℕ) (Is : List ℕ → List E → Type 0) (s : ChunkedRepresents holds spells ahead d w values) → length run ≡ count → count ≤ remaining_of d.chunks
       → 0 < used → used ≤ count → Is (s.content ++ take (used - 1) run) values → AtData Is (w ++ take (used - 1) run) values (slice_index run (used - 1))
-  run_at d w run values used count Is s len room some within is =
-      let fronts : (n : ℕ) → n ≤ count → IsOpen (w ++ take n run) (s.content ++ take n run) = λ n inside. fronts_of d.chunks w s.content run n count room len inside s.chunks in
+  run_at d w run values used count Is s len remaining some within is =
+      let fronts : (n : ℕ) → n ≤ count → IsOpen (w ++ take n run) (s.content ++ take n run) = λ n inside. fronts_of d.chunks w s.content run n count remaining len inside s.chunks in
       let sum : used ≡ (used - 1) + 1 = omega (arith, some) in
       let more : take used run ≡ take (used - 1) run ++ slice_index run (used - 1) ∷ [] =
       ap (λ (n : ℕ). take n run) sum ∙ take_more run (used - 1) 0 (omega (arith, some, within, len)) in
@@ -86,23 +86,23 @@ module _ {R E : Type 0} (holds : R → List ℕ → Type 0) (spells : List ℕ �
     run_stops : (d : ChunkedBody R) (limit : ℕ) (w run : List ℕ) (values : List E) (used count : ℕ) (fault : Fault) (s : ChunkedRepresents holds spells ahead d w values) → length run ≡ count → count ≤ remaining_of d.chunks
         → 0 < used → used ≤ count → BodyStops spells breaks ahead limit (s.content ++ take (used - 1) run) values (slice_index run (used - 1)) fault
         → ChunkedStops spells breaks ahead limit (w ++ take (used - 1) run) values (slice_index run (used - 1)) fault
-    run_stops d limit w run values used count fault s len room some within stops =
-        let at = run_at d w run values used count (λ body vs. BodyStops spells breaks ahead limit body vs (slice_index run (used - 1)) fault) s len room some within stops in
+    run_stops d limit w run values used count fault s len remaining some within stops =
+        let at = run_at d w run values used count (λ body vs. BodyStops spells breaks ahead limit body vs (slice_index run (used - 1)) fault) s len remaining some within stops in
         stops_data spells breaks ahead limit (w ++ take (used - 1) run) at.0 values (slice_index run (used - 1)) fault at.1 at.2 at.3
 
     -- the result of the stream for data in a chunk, from the result of the body
     pub run_says : (d new : ChunkedBody R) (w run : List ℕ) (values : List E) (used count : ℕ) (answer : Decoded E Fault) (s : ChunkedRepresents holds spells ahead d w values) → length run ≡ count → count ≤ remaining_of d.chunks
         → 0 < used → used ≤ count → ChunkRepresents new.chunks (w ++ take used run) (s.content ++ take used run)
         → SaysIn Plain (BodyRepresents holds spells ahead new.body) spells breaks ahead (limit_of new.body.records) s.content values run used answer → SaysIn Chunked (ChunkedRepresents holds spells ahead new) spells breaks ahead (limit_of new.body.records) w values run used answer
-    run_says d new w run values used count out.More s len room some within chunks taken =
+    run_says d new w run values used count out.More s len remaining some within chunks taken =
         record { content = s.content ++ take used run; chunks = chunks; body = taken }
-    run_says d new w run values used count (out.Event value) s len room some within chunks taken = (
+    run_says d new w run values used count (out.Event value) s len remaining some within chunks taken = (
       record { content = s.content ++ take used run; chunks = chunks; body = taken.0 },
-      run_at d w run values used count (λ body vs. EndsRecord spells (limit_of new.body.records) body vs (slice_index run (used - 1)) (HasValue spells value)) s len room some within taken.1,
+      run_at d w run values used count (λ body vs. EndsRecord spells (limit_of new.body.records) body vs (slice_index run (used - 1)) (HasValue spells value)) s len remaining some within taken.1,
     )
-    run_says d new w run values used count out.End s len room some within chunks taken = absurd taken
-    run_says d new w run values used count (out.Fault fault) s len room some within chunks taken =
-        run_stops d (limit_of new.body.records) w run values used count fault s len room some within taken
+    run_says d new w run values used count out.End s len remaining some within chunks taken = absurd taken
+    run_says d new w run values used count (out.Fault fault) s len remaining some within chunks taken =
+        run_stops d (limit_of new.body.records) w run values used count fault s len remaining some within taken
 
 module _ {E : Type 0} (framing : Framing) (Represents : List ℕ → List E → Type 0) (spells : List ℕ → E → Type 0) (breaks : List ℕ → RecordError → Type 0) (ahead limit : ℕ) where
   -- the meaning of a result does not depend on where the same bytes are cut into w and a piece

@@ -139,7 +139,7 @@ so_far_framing old mid new piece run places most used count before within passes
 pub so_far_byte : (old mid new : ChunkState) (piece run places : List ℕ) (most used : ℕ) → GatheredSoFar old mid piece most used run places → used < length piece → length run + 1 < most
     → ((w body p : List ℕ) → length p ≡ 1 → ChunkRepresents mid w body → ChunkRepresents new (w ++ p) (body ++ p))
     → GatheredSoFar old new piece most (used + 1) (run ++ slice_index piece used ∷ []) (places ++ used ∷ [])
-so_far_byte old mid new piece run places most used before inside room passes =
+so_far_byte old mid new piece run places most used before inside remaining passes =
     let b : ℕ = slice_index piece used in
     let len = length-append run (b ∷ []) in
     let more = length-append places (used ∷ []) in
@@ -147,7 +147,7 @@ so_far_byte old mid new piece run places most used before inside room passes =
     let short = before.short in
     record {
       inside = omega (arith, inside);
-      few = λ some. omega (arith, room, len);
+      few = λ some. omega (arith, remaining, len);
       short = omega (arith, short, len);
       same = omega (arith, same, len, more);
       each = places_inside places used before.each;
@@ -164,9 +164,9 @@ on_ok (Err why) P Q follows h = h
 
 -- a record continues after fewer bytes of data than it needs
 passes_on : (new : RecordState) (x r p : List ℕ) (left : ℕ) (ended : Bool) → RecordPasses new x r p ended → length p < left → remaining_of new + length p ≡ left → RecordStands new (x ++ p) (r ++ p)
-passes_on new x r p left false passes short room = passes
-passes_on new x r p left true passes short room =
-    let begun = begun_room new [] [] passes.1 (omega (arith, short, room)) in
+passes_on new x r p left false passes short remaining = passes
+passes_on new x r p left true passes short remaining =
+    let begun = begun_room new [] [] passes.1 (omega (arith, short, remaining)) in
     let spelt = ap length begun.spelt in
     let len = length-append begun.size (10 ∷ []) in
     absurd (omega (arith, spelt, len))
@@ -193,8 +193,8 @@ module _ {R E : Type 0} (holds : R → List ℕ → Type 0) (spells : List ℕ �
   -- the state after data p that do not end the record
   pub passed : (d new : Body R) (b p : List ℕ) (values : List E) (ended : Bool) (s : BodyRepresents holds spells ahead d b values) → new.done ≡ d.done → limit_of new.records ≡ limit_of d.records
       → RecordPasses new.records s.x s.r p ended → length p < remaining_of d.records → remaining_of new.records + length p ≡ remaining_of d.records → holds new.reader (s.r ++ p) → BodyRepresents holds spells ahead new (b ++ p) values
-  passed d new b p values ended s done limit passes short room kept =
-      stands_on holds spells ahead d new b p (s.r ++ p) values s done limit kept (passes_on new.records s.x s.r p (remaining_of d.records) ended passes short room)
+  passed d new b p values ended s done limit passes short remaining kept =
+      stands_on holds spells ahead d new b p (s.r ++ p) values s done limit kept (passes_on new.records s.x s.r p (remaining_of d.records) ended passes short remaining)
 
   -- the record continues after each prefix of the consumed bytes
   pub gathered_live : (d : ChunkedBody R) (new : ChunkState) (w rest run places : List ℕ) (values : List E) (used : ℕ) (s : ChunkedRepresents holds spells ahead d w values)

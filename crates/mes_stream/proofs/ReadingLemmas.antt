@@ -5,7 +5,7 @@ use Rattle.std.specs.Prelude.{OnOk, IfErr, slice_index}
 use Rattle.mes_frame.specs.declared.counts.Counts.{Counts}
 use Rattle.mes_stream.specs.Framings.{GoesIn, EndsIn, WholeIn, EndsRecordIn, ByteStopsIn, StopsWithin}
 use Rattle.mes_stream.specs.Reads.{EndsReads}
-use Rattle.mes_stream.specs.Reading.{Ahead, nothing_ahead, EndsAt, ByteEndsAfter, EndsReading, ReadingRepresents, ReadingRepresentsAfter, ReadingTakesAfter, Means, Gathers, GathersLast, reported_as}
+use Rattle.mes_stream.specs.Reading.{Ahead, nothing_ahead, EndsAt, ByteEndsAfter, EndsReading, ReadingRepresents, ReadingRepresentsAfter, ReadingTakesAfter, Means, Collects, GathersLast, reported_as}
 use Rattle.mes_stream.specs.Stream.{saturated, Records, EndsRecord, HasValue}
 use Rattle.mes_stream.specs.Held.{held_by_reading}
 use Rattle.mes_stream.specs.StreamReaders.{KeepsNoneAfterStop}
@@ -74,12 +74,12 @@ module _ {R E : Type 0} (holds : R → List ℕ → Type 0) (spells : List ℕ �
       → ReadingTakesAfter holds spells breaks ahead new framing limit v before piece old now result
 
   -- before the first piece nothing is appended
-  pub gathers_none : (d : Reading R) (start : List E) → Gathers holds spells d start d start []
+  pub gathers_none : (d : Reading R) (start : List E) → Collects holds spells d start d start []
   gathers_none d start = λ ahead framing limit v before represents. ([], sym (append-nil start), rw (append-nil, append-nil) represents)
 
   -- one more piece appends the values of the records that end in it
-  pub gathers_more : {T : Type 0} (first d new : Reading R) (start old now : List E) (w piece : List ℕ) (result : Result T ReadingStop) → Gathers holds spells first start d old w → TakesAll d new piece old now result
-      → OnOk result (Gathers holds spells first start new now (w ++ piece))
+  pub gathers_more : {T : Type 0} (first d new : Reading R) (start old now : List E) (w piece : List ℕ) (result : Result T ReadingStop) → Collects holds spells first start d old w → TakesAll d new piece old now result
+      → OnOk result (Collects holds spells first start new now (w ++ piece))
   gathers_more first d new start old now w piece (Ok done) h fed = λ ahead framing limit v before represents.
       let so_far = h ahead framing limit v before represents in
       let more = fed ahead framing limit (v ++ w) (before ++ so_far.0) so_far.2 in (
@@ -90,7 +90,7 @@ module _ {R E : Type 0} (holds : R → List ℕ → Type 0) (spells : List ℕ �
       )
   gathers_more first d new start old now w piece (Err stop) h fed = tt
 
-  pub gathers_last : {T : Type 0} (kept : R → ℕ) (first d new : Reading R) (start old now : List E) (w piece : List ℕ) (result : Result T ReadingStop) → Gathers holds spells first start d old w → TakesAll d new piece old now result
+  pub gathers_last : {T : Type 0} (kept : R → ℕ) (first d new : Reading R) (start old now : List E) (w piece : List ℕ) (result : Result T ReadingStop) → Collects holds spells first start d old w → TakesAll d new piece old now result
       → KeepsNoneAfterStop (held_by_reading kept new) result → IfErr result (λ stop. GathersLast holds spells breaks kept first start new now w piece stop)
   gathers_last kept first d new start old now w piece (Ok done) h fed none = tt
   gathers_last kept first d new start old now w piece (Err stop) h fed none = (
@@ -107,7 +107,7 @@ module _ {R E : Type 0} (holds : R → List ℕ → Type 0) (spells : List ℕ �
 
   -- how the reading of the stream ended, from how the reads of the device ended
   pub read_through : (kept : R → ℕ) (first now : Reading R) (start to : List E) (framing : Framing) (limit reads : ℕ) (old new : Counts) (last : Option (List ℕ)) (w : List ℕ) (end : ReadsEnd ReadingStop) (answer : Result Report Stop)
-      → ReadingRepresents holds spells first framing limit [] [] → EndsReads (Gathers holds spells first start now to) (GathersLast holds spells breaks kept first start now to) reads old new last w end → Means holds spells now end answer
+      → ReadingRepresents holds spells first framing limit [] [] → EndsReads (Collects holds spells first start now to) (GathersLast holds spells breaks kept first start now to) reads old new last w end → Means holds spells now end answer
       → (more : List E) × (to ≡ start ++ more) × EndsReading framing spells breaks limit reads old new last w more answer
   read_through kept first now start to framing limit reads old new last w (Stopped stop) answer represents (front, piece, at, stops, asked) is =
       let h = stops.0 nothing_ahead framing limit [] [] represents in

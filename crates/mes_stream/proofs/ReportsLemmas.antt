@@ -46,21 +46,21 @@ module _ {R E : Type 0} (holds : R → List ℕ → Type 0) (spells : List ℕ �
       → 0 < used → used ≤ count → ChunkRepresents chunks (w ++ take used run) (s.content ++ take used run)
       → Reports holds spells breaks ahead Plain (BodyRepresents holds spells ahead) body (limit_of body.records) s.content values run used told
       → Reports holds spells breaks ahead Chunked (λ after. ChunkedRepresents holds spells ahead (record { chunks = chunks; body = after })) body (limit_of body.records) w values run used told
-  run_tells d chunks body w run values used count out.More s len room some within represents taken =
-      run_says holds spells ahead breaks d (record { chunks = chunks; body = body }) w run values used count out.More s len room some within represents taken
-  run_tells d chunks body w run values used count (out.Event done) s len room some within represents (r, kept, fits, so) = (
+  run_tells d chunks body w run values used count out.More s len remaining some within represents taken =
+      run_says holds spells ahead breaks d (record { chunks = chunks; body = body }) w run values used count out.More s len remaining some within represents taken
+  run_tells d chunks body w run values used count (out.Event done) s len remaining some within represents (r, kept, fits, so) = (
     r,
     kept,
     fits,
     λ after answer same ends.
         let limit = ap (λ (t : RecordState). limit_of t) same in
         subst (λ (n : ℕ). SaysIn Chunked (ChunkedRepresents holds spells ahead (record { chunks = chunks; body = after })) spells breaks ahead n w values run used (record_answer after.done answer)) limit
-        (run_says holds spells ahead breaks d (record { chunks = chunks; body = after }) w run values used count (record_answer after.done answer) s len room some within represents
+        (run_says holds spells ahead breaks d (record { chunks = chunks; body = after }) w run values used count (record_answer after.done answer) s len remaining some within represents
         (subst (λ (n : ℕ). SaysIn Plain (BodyRepresents holds spells ahead after) spells breaks ahead n s.content values run used (record_answer after.done answer)) (sym limit) (so after answer same ends))),
   )
-  run_tells d chunks body w run values used count out.End s len room some within represents taken = absurd taken
-  run_tells d chunks body w run values used count (out.Fault fault) s len room some within represents taken =
-      run_says holds spells ahead breaks d (record { chunks = chunks; body = body }) w run values used count (out.Fault fault) s len room some within represents taken
+  run_tells d chunks body w run values used count out.End s len remaining some within represents taken = absurd taken
+  run_tells d chunks body w run values used count (out.Fault fault) s len remaining some within represents taken =
+      run_says holds spells ahead breaks d (record { chunks = chunks; body = body }) w run values used count (out.Fault fault) s len remaining some within represents taken
 
   -- the result of a reader of plain RecordIO, from the result of its records
   pub plain_tells : (body : Body R) (framing : Framing) (limit : ℕ) (w run : List ℕ) (values : List E) (used : ℕ) (told : Decoded (Unit {0}) Fault) → framing ≡ Plain → limit_of body.records ≡ limit

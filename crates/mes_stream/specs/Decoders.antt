@@ -51,14 +51,14 @@ EndsBy end (out.Event value) = end ≡ None
 EndsBy end out.End = end ≡ Some Closed
 EndsBy end (out.Fault fault) = end ≡ Some (Failed fault)
 
--- n is at most the bound that `room` gives for the data of the incomplete record at the end of b
+-- n is at most the bound that `remaining` gives for the data of the incomplete record at the end of b
 abbrev pub HoldsInBody : {E : Type 0} → (List ℕ → E → Type 0) → (List ℕ → ℕ) → ℕ → List ℕ → List E → ℕ → Type 0
-HoldsInBody spells room limit b values n = Following spells limit (λ x. (r : List ℕ) × Begun x r limit × (n ≤ room r)) b values
+HoldsInBody spells max_held limit b values n = Following spells limit (λ x. (r : List ℕ) × Begun x r limit × (n ≤ max_held r)) b values
 
 abbrev pub HoldsOf : {E : Type 0} → (List ℕ → E → Type 0) → (List ℕ → ℕ) → ℕ → List ℕ → List E → ℕ → Type 0
-HoldsOf spells room limit w values n = (body : List ℕ) × IsOpen w body × HoldsInBody spells room limit body values n
+HoldsOf spells max_held limit w values n = (body : List ℕ) × IsOpen w body × HoldsInBody spells max_held limit body values n
 
 -- like `HoldsInBody`, for a stream of either framing
 abbrev pub HoldsIn : {E : Type 0} → Framing → (List ℕ → E → Type 0) → (List ℕ → ℕ) → ℕ → List ℕ → List E → ℕ → Type 0
-HoldsIn Plain spells room limit w values n = HoldsInBody spells room limit w values n
-HoldsIn Chunked spells room limit w values n = HoldsOf spells room limit w values n
+HoldsIn Plain spells max_held limit w values n = HoldsInBody spells max_held limit w values n
+HoldsIn Chunked spells max_held limit w values n = HoldsOf spells max_held limit w values n

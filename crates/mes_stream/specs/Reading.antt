@@ -149,12 +149,12 @@ Means holds spells d end answer = MeansAfter holds spells nothing_ahead d end an
 -- Between the states `first` and `now` the reading consumed w, and appended the values of w to the
 -- list `start`, which became `to`. This holds for any bytes before w, and any records before the
 -- stream.
-abbrev pub Gathers : {R E : Type 0} → (R → List ℕ → Type 0) → (List ℕ → E → Type 0) → Reading R → List E → Reading R → List E → List ℕ → Type 0
-Gathers {E = E} holds spells first start now to w =
+abbrev pub Collects : {R E : Type 0} → (R → List ℕ → Type 0) → (List ℕ → E → Type 0) → Reading R → List E → Reading R → List E → List ℕ → Type 0
+Collects {E = E} holds spells first start now to w =
     (ahead : Ahead) (framing : Framing) (limit : ℕ) (v : List ℕ) (before : List E) → ReadingRepresentsAfter holds spells ahead first framing limit v before
     → (more : List E) × (to ≡ start ++ more) × ReadingRepresentsAfter holds spells ahead now framing limit (v ++ w) (before ++ more)
 
--- like `Gathers`, but the stream ended or an error was detected in the piece after w, and nothing
+-- like `Collects`, but the stream ended or an error was detected in the piece after w, and nothing
 -- is buffered
 abbrev pub GathersLast : {R E : Type 0} → (R → List ℕ → Type 0) → (List ℕ → E → Type 0) → (List ℕ → RecordError → Type 0) → (R → ℕ) → Reading R → List E → Reading R → List E → List ℕ → List ℕ → ReadingStop → Type 0
 GathersLast {E = E} holds spells breaks kept first start now to w piece stop =

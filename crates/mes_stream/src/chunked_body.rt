@@ -54,12 +54,12 @@ impl<R: RecordReader> ChunkedBody<R> {
         ensures used { (0 < result.used) × (result.used ≤ length rest.now) }
         ensures limit { limit_of self.new.body.records ≡ limit_of self.old.body.records }
     {
-        let room = self.chunks.room();
-        if room == 0 {
+        let remaining = self.chunks.remaining();
+        if remaining == 0 {
             return self.take_between(rest);
         }
-        let count = if room < rest.len() as u64 {
-            room as usize
+        let count = if remaining < rest.len() as u64 {
+            remaining as usize
         } else {
             rest.len()
         };
@@ -109,7 +109,7 @@ impl<R: RecordReader> ChunkedBody<R> {
         ensures used { result.used ≤ length rest.now }
         ensures limit { limit_of self.new.body.records ≡ limit_of self.old.body.records }
     {
-        let most = self.body.room();
+        let most = self.body.remaining();
         let gathered = gather_short_chunks(&mut self.chunks, rest, most);
         if gathered.bytes.is_empty() {
             return Step::more(gathered.used);
@@ -201,8 +201,12 @@ fn gather_short_chunks(chunks: &mut ChunkState, piece: &[u8], most: usize) -> Sh
     let mut places = ArrayVec::new();
     while bytes.len() < MAX_GATHERED {
         used += next.next_chunk(&piece[used..]);
-        let room = next.room();
-        if room == 0 || room > MAX_SHORT_CHUNK || used == piece.len() || bytes.len() + 1 >= most {
+        let remaining = next.remaining();
+        if remaining == 0
+            || remaining > MAX_SHORT_CHUNK
+            || used == piece.len()
+            || bytes.len() + 1 >= most
+        {
             break;
         }
         bytes.push(piece[used]);

@@ -3,7 +3,7 @@
 ghost use Rattle.std.specs.Prelude.{◌≡◌, ◌+◌, ◌<◌, ◌≤◌, ℕ, List, [], length};
 ghost use Rattle.mes_stream.specs.Decoders.{HoldsIn};
 ghost use Rattle.mes_stream.specs.Held.{held_by_reading};
-ghost use Rattle.mes_stream.specs.Reading.{Ahead, ReadingRepresents, ReadingRepresentsAfter, ReadingTakesAfter, ReadingTakesRecord, EndsWithin, MeansAfter, Gathers, GathersLast};
+ghost use Rattle.mes_stream.specs.Reading.{Ahead, ReadingRepresents, ReadingRepresentsAfter, ReadingTakesAfter, ReadingTakesRecord, EndsWithin, MeansAfter, Collects, GathersLast};
 ghost use Rattle.mes_stream.specs.RecordValues.{IsRefused};
 ghost use Rattle.mes_stream.specs.Stream.{saturated};
 ghost use Rattle.mes_stream.specs.StreamReaders.{KeepsNoneAfterStop};
@@ -92,7 +92,7 @@ impl<R: RecordReader> Reading<R> {
         ensures most { (ahead : Ahead) (framing : FramingValue) (limit : ℕ) (w : List ℕ)
             (values : List R.Value) → ReadingRepresentsAfter R.holds R.spells ahead self.now framing
             limit w values
-            → HoldsIn framing R.spells R.room limit w values result }
+            → HoldsIn framing R.spells R.max_held limit w values result }
     {
         self.stream.held()
     }
@@ -196,7 +196,7 @@ impl<R: RecordReader> Reading<R> {
 impl<R: RecordReader> Consumer<Vec<R::Value>> for Reading<R> {
     type Stop = ReadingStop;
 
-    ghost goes = { λ first start now to w. Gathers R.holds R.spells first start.items now to.items
+    ghost goes = { λ first start now to w. Collects R.holds R.spells first start.items now to.items
         w };
 
     ghost stops = { λ first start now to w piece stop. GathersLast R.holds R.spells

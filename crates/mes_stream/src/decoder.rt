@@ -156,7 +156,7 @@ impl<R: RecordReader> RecordDecoder<R> {
         // The bound: what the reader of records may buffer of the incomplete record.
         ensures held { (limit : ℕ) (w : List ℕ) (values : List R.Value)
             → DecoderRepresents R.holds R.spells self.now limit w values
-            → HoldsOf R.spells R.room limit w values result }
+            → HoldsOf R.spells R.max_held limit w values result }
         // The count: what the reader of records buffers, and 0 after the end or an error.
         ensures count { result ≡ held_by_decoder R.kept self.now }
     {

@@ -44,7 +44,7 @@ impl RecordReader for EventReader {
 
     ghost kept = { kept_data };
 
-    ghost room = { inner };
+    ghost max_held = { inner };
 
     #[inline(always)]
     fn push_run(&mut self, bytes: &[u8]) -> Result<(), NoMemoryAt> {

@@ -125,10 +125,10 @@ impl<R: RecordReader> Body<R> {
 
     /// Returns how many of the next bytes are data of the record: 0 in a size line and after an
     /// error.
-    pub(crate) fn room(&self) -> usize
+    pub(crate) fn remaining(&self) -> usize
         ensures { result ≡ remaining_of self.now.records }
     {
-        self.records.room()
+        self.records.remaining()
     }
 
     /// Consumes the bytes `run` of a record's data, which do not end the record.
@@ -176,7 +176,7 @@ impl<R: RecordReader> Body<R> {
         // The bound: what `reader` may buffer of the incomplete record.
         ensures most { (ahead : ℕ) (b : List ℕ) (values : List R.Value)
             → BodyRepresents R.holds R.spells ahead self.now b values
-            → HoldsInBody R.spells R.room (limit_of self.now.records) b values result }
+            → HoldsInBody R.spells R.max_held (limit_of self.now.records) b values result }
     {
         self.reader.held()
     }
@@ -205,10 +205,13 @@ fn front_of(records: &mut RecordState, run: &[u8]) -> Front
     ensures limit { limit_of records.new ≡ limit_of records.old }
     ensures within { IsWithin (length run.now) result }
 {
-    let room = records.room().min(run.len());
-    if room > 0 {
-        let last = records.pass(room);
-        return Front::Data { count: room, last };
+    let remaining = records.remaining().min(run.len());
+    if remaining > 0 {
+        let last = records.pass(remaining);
+        return Front::Data {
+            count: remaining,
+            last,
+        };
     }
     match records.step(run[0]) {
         RecordOut::Quiet => Front::Size {
@@ -230,7 +233,7 @@ fn size_run(records: &mut RecordState, run: &[u8]) -> usize
     ensures within { result ≤ length run.now }
 {
     let mut count = 0;
-    while count < run.len() && records.room() == 0 {
+    while count < run.len() && records.remaining() == 0 {
         let mut next = *records;
         match next.step(run[count]) {
             RecordOut::Quiet => {}

@@ -25,7 +25,7 @@ pub trait RecordReader: Drop {
     ghost kept: { Self → ℕ };
 
     /// The largest number of bytes that the reader buffers of these data.
-    ghost room: { List ℕ → ℕ };
+    ghost max_held: { List ℕ → ℕ };
 
     /// Consumes the bytes `run` of a record's data.
     fn push_run(&mut self, bytes: &[u8]) -> Result<(), NoMemoryAt>
@@ -67,5 +67,5 @@ pub trait RecordReader: Drop {
     /// Returns the number of buffered bytes, without spare capacity.
     fn held(&self) -> u64
         ensures count { result ≡ kept self.now }
-        ensures most { (r : List ℕ) → holds self.now r → result ≤ room r };
+        ensures most { (r : List ℕ) → holds self.now r → result ≤ max_held r };
 }

@@ -174,7 +174,7 @@ impl<R: RecordReader> StreamReader<R> {
         ensures most { (ahead : ℕ) (framing : FramingValue) (limit : ℕ) (w : List ℕ)
             (values : List R.Value) → StreamRepresents R.holds R.spells ahead self.now framing limit
             w values
-            → HoldsIn framing R.spells R.room limit w values result }
+            → HoldsIn framing R.spells R.max_held limit w values result }
     {
         match self {
             StreamReader::Plain(body) => body.held(),

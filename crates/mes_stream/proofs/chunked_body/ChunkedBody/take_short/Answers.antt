@@ -7,7 +7,7 @@ pub returns-then-is_empty-clause-before : goal.returns-then-is_empty-clause-befo
 returns-then-is_empty-clause-before g c = λ ahead w values s n early.
     let made = c.gather_short_chunks-gathered.result in
     gathered_live g.R.RecordReader.holds g.R.RecordReader.spells ahead c.args.self.now c.gather_short_chunks-gathered.new.chunks w c.args.rest.now made.bytes.items made.places.items values made.used s
-    (c.gather_short_chunks-gathered.ensures.gathers w s.content s.chunks) (λ some. omega (arith, c.gather_short_chunks-gathered.ensures.few some, c.room-most.ensures)) n (rw c.more.ensures at early)
+    (c.gather_short_chunks-gathered.ensures.gathers w s.content s.chunks) (λ some. omega (arith, c.gather_short_chunks-gathered.ensures.few some, c.remaining-most.ensures)) n (rw c.more.ensures at early)
 
 pub returns-in-Ok-clause-reports : goal.returns-in-Ok-clause-reports
 returns-in-Ok-clause-reports g c = λ ahead w values s.
@@ -22,7 +22,7 @@ returns-in-Ok-clause-before g c = λ ahead w values s n early.
     let made = c.gather_short_chunks-gathered.result in
     rw c.pass.ensures.limit
     (gathered_live g.R.RecordReader.holds g.R.RecordReader.spells ahead c.args.self.now c.gather_short_chunks-gathered.new.chunks w c.args.rest.now made.bytes.items made.places.items values made.used s
-    (c.gather_short_chunks-gathered.ensures.gathers w s.content s.chunks) (λ some. omega (arith, c.gather_short_chunks-gathered.ensures.few some, c.room-most.ensures)) n (rw c.more-in-Ok.ensures at early))
+    (c.gather_short_chunks-gathered.ensures.gathers w s.content s.chunks) (λ some. omega (arith, c.gather_short_chunks-gathered.ensures.few some, c.remaining-most.ensures)) n (rw c.more-in-Ok.ensures at early))
 
 pub returns-in-Err-clause-reports : goal.returns-in-Err-clause-reports
 returns-in-Err-clause-reports g c = λ ahead w values s.
@@ -36,7 +36,7 @@ returns-in-Err-clause-reports g c = λ ahead w values s.
     let back : slice_index made.places.items k ≡ slice_index c.as_slice-in-Err.result.now k + 1 - 1 = omega (arith, ap (λ (l : List ℕ). slice_index l k) c.as_slice-in-Err.ensures.value) in
     rw (c.no_memory.ensures.fault, c.no_memory.ensures.used, c.pass.ensures.limit)
     (gathered_stops g.R.RecordReader.holds g.R.RecordReader.spells ahead c.args.self.now g.R.RecordReader.breaks c.gather_short_chunks-gathered.new.chunks w c.args.rest.now made.bytes.items made.places.items values made.used k _ s
-    (c.gather_short_chunks-gathered.ensures.gathers w s.content s.chunks) inside (omega (arith, c.gather_short_chunks-gathered.ensures.few some, c.room-most.ensures)) back starved)
+    (c.gather_short_chunks-gathered.ensures.gathers w s.content s.chunks) inside (omega (arith, c.gather_short_chunks-gathered.ensures.few some, c.remaining-most.ensures)) back starved)
 
 pub returns-in-Err-clause-before : goal.returns-in-Err-clause-before
 returns-in-Err-clause-before g c = λ ahead w values s n early.
@@ -50,4 +50,4 @@ returns-in-Err-clause-before g c = λ ahead w values s n early.
     let at_place = ap (λ (l : List ℕ). slice_index l k) c.as_slice-in-Err.ensures.value in
     rw c.pass.ensures.limit
     (gathered_live g.R.RecordReader.holds g.R.RecordReader.spells ahead c.args.self.now c.gather_short_chunks-gathered.new.chunks w c.args.rest.now made.bytes.items made.places.items values made.used s
-    (c.gather_short_chunks-gathered.ensures.gathers w s.content s.chunks) (λ some. omega (arith, c.gather_short_chunks-gathered.ensures.few some, c.room-most.ensures)) n (omega (arith, early, c.no_memory.ensures.used, phase, at_place)))
+    (c.gather_short_chunks-gathered.ensures.gathers w s.content s.chunks) (λ some. omega (arith, c.gather_short_chunks-gathered.ensures.few some, c.remaining-most.ensures)) n (omega (arith, early, c.no_memory.ensures.used, phase, at_place)))

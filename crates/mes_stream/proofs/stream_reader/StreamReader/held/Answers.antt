@@ -8,12 +8,12 @@ use Rattle.mes_stream.proofs.stream_reader.StreamReader.held.Goals as goal
 pub returns-in-Plain-clause-most : goal.returns-in-Plain-clause-most
 returns-in-Plain-clause-most g c = λ ahead framing limit w values s.
     let t = rw c.in-Plain.is at s in
-    subst (λ (f : Framing). HoldsIn f g.R.RecordReader.spells g.R.RecordReader.room limit w values c.held.result) (sym t.0)
-    (subst (λ (n : ℕ). HoldsIn Plain g.R.RecordReader.spells g.R.RecordReader.room n w values c.held.result) t.2 (c.held.ensures.most ahead w values t.1))
+    subst (λ (f : Framing). HoldsIn f g.R.RecordReader.spells g.R.RecordReader.max_held limit w values c.held.result) (sym t.0)
+    (subst (λ (n : ℕ). HoldsIn Plain g.R.RecordReader.spells g.R.RecordReader.max_held n w values c.held.result) t.2 (c.held.ensures.most ahead w values t.1))
 
 pub returns-in-Chunked-clause-most : goal.returns-in-Chunked-clause-most
 returns-in-Chunked-clause-most g c = λ ahead framing limit w values s.
     let t = rw c.in-Chunked.is at s in
-    subst (λ (f : Framing). HoldsIn f g.R.RecordReader.spells g.R.RecordReader.room limit w values c.held-in-Chunked.result) (sym t.0)
-    (subst (λ (n : ℕ). HoldsIn Chunked g.R.RecordReader.spells g.R.RecordReader.room n w values c.held-in-Chunked.result) t.2
+    subst (λ (f : Framing). HoldsIn f g.R.RecordReader.spells g.R.RecordReader.max_held limit w values c.held-in-Chunked.result) (sym t.0)
+    (subst (λ (n : ℕ). HoldsIn Chunked g.R.RecordReader.spells g.R.RecordReader.max_held n w values c.held-in-Chunked.result) t.2
     (t.1.content, open_of _ w t.1.content t.1.chunks, c.held-in-Chunked.ensures.most ahead t.1.content values t.1.body))
