@@ -41,7 +41,8 @@ import heads
 import inputs
 from support import Cases, free_port, parser, read_all
 
-LIMIT = 10
+# How long a run may take, in seconds. Other tests run beside it.
+LIMIT = 60
 SEEN = os.path.join(os.path.dirname(os.path.abspath(__file__)), "seen")
 Ran = namedtuple("Ran", "out err status")
 # What `subscribe` sends to a host.
@@ -379,7 +380,7 @@ class Serving:
                 elif linger:
                     client.setsockopt(socket.SOL_SOCKET, socket.SO_LINGER, struct.pack("ii", 1, 0))
             except TimeoutError as error:
-                raise Difference(f"no answer within {LIMIT} seconds to {sent!r}", data) from error
+                raise Difference(f"no answer within {LIMIT} seconds to {sent[:200]!r}", data) from error
         self.asked.append((data, kind, how, came))
         return came
 
