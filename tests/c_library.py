@@ -32,7 +32,7 @@ USUAL, MOST = 4_194_304, 67_108_864
 FRAMINGS = {0: [], 1: ["--chunked"]}
 VALGRIND = ["valgrind", "-q", "--error-exitcode=9", "--leak-check=full", "--show-leak-kinds=all", "--errors-for-leak-kinds=all"]
 BEAT = support.BEAT.encode()
-# An event of which 1,024 records fill a piece of 65,536 bytes.
+# 1,024 records of this event fill a piece of 65,536 bytes.
 MANY, MANY_COUNT = b'{"type":"ERROR","error":{"message":"%s"}}' % (b"x" * 22), 5000
 
 

@@ -87,7 +87,7 @@ REFUSED = (
 )
 # H1 is of devices too.
 HEADS = r"refused (?:H2 HeadTooLong|H3 BadHead|H4 Status N|H5 NotChunked|H6 NotJson|H7 NoStreamId)\n"
-# What stands last with status 0 and with status 1, what a report is, and what is told on standard error.
+# The last line of output with status 0 and with status 1, a report, and the lines on standard error.
 GOOD_END, BAD_END = form(r"events N bytes N\n"), form(FAULT + "|" + REFUSED + "|" + HEADS + r"|net write failed\n")
 REPORT = form(r"entries N\nframework (?:-|TEXT)\n(?:hand TEXT\n)*(?:owed TEXT TEXT UUID\n)*")
 TOLD, MISTAKE = form(FAULT + r"|encode failed event N (?:TooDeep|TooLarge)\n"), re.compile(rb"error: .+\n", re.DOTALL)
