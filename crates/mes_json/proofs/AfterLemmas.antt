@@ -1,5 +1,6 @@
 -- The steps of the reader at the byte after a value: a comma, or the end of an object or array.
-use Rattle.std.proofs.Common.{◌≡◌, ℕ, ◌+◌, inl, inr, List, [], ◌∷◌, Option, Some, None, Result, OnOk, IfErr, refl, ap, sym, ◌∙◌, subst, arith}
+use Rattle.std.proofs.Common.{◌≡◌, ℕ, ◌+◌, inl, inr, List, [], ◌∷◌, Bool, true, false, Option, Some, None, Result, OnOk, IfErr, refl, ap, sym, ◌∙◌, subst, arith}
+use Rattle.std.specs.Option.{is_some}
 use Rattle.mes_json.specs.Tree.{Tree, Members}
 use Rattle.mes_json.specs.Tree.Tree.{object, array}
 use Rattle.mes_json.specs.Tree.Members.{no_members, member}
@@ -158,3 +159,35 @@ pub no_array : (old : Reader) (c : ℕ) (o : Option Open) → Fits old → old.a
     → Refuses MAX_NESTING Byte (state_view old) c
 no_array old c o fits is_at inside not kind =
     refused_after old c m.ByteClass.closing_array fits is_at kind (λ fs t are_open. no_closing_array fs t (subst NoArray (sym (top_is _ fs o are_open inside)) not))
+
+abbrev is_object : Option Open → Bool
+is_object None = false
+is_object (Some Object) = true
+is_object (Some Array) = false
+
+-- whether the end of an object may follow a value, by the innermost open object or array
+pub object_may_end : (n : List Open) (fs : List Frame) (t : Tree) (c : ℕ) (o : Option Open) → n ≡ opens fs → innermost n ≡ o → kind_of c ≡ m.ByteClass.closing
+    → is_object o ≡ is_some (on_after fs t (kind_of c))
+object_may_end n fs t c o are_open inside kind =
+    ap is_object (sym (top_is n fs o are_open inside)) ∙ by fs ∙ ap (λ (k : m.ByteClass). is_some (on_after fs t k)) (sym kind)
+  where
+    by : (gs : List Frame) → is_object (top_of gs) ≡ is_some (on_after gs t m.ByteClass.closing)
+    by [] = refl
+    by (frame ms k ∷ gs) = refl
+    by (array_frame ts ∷ gs) = refl
+
+abbrev is_array : Option Open → Bool
+is_array None = false
+is_array (Some Object) = false
+is_array (Some Array) = true
+
+-- whether the end of an array may follow a value, by the innermost open object or array
+pub array_may_end : (n : List Open) (fs : List Frame) (t : Tree) (c : ℕ) (o : Option Open) → n ≡ opens fs → innermost n ≡ o → kind_of c ≡ m.ByteClass.closing_array
+    → is_array o ≡ is_some (on_after fs t (kind_of c))
+array_may_end n fs t c o are_open inside kind =
+    ap is_array (sym (top_is n fs o are_open inside)) ∙ by fs ∙ ap (λ (k : m.ByteClass). is_some (on_after fs t k)) (sym kind)
+  where
+    by : (gs : List Frame) → is_array (top_of gs) ≡ is_some (on_after gs t m.ByteClass.closing_array)
+    by [] = refl
+    by (frame ms k ∷ gs) = refl
+    by (array_frame ts ∷ gs) = refl

@@ -8,7 +8,7 @@ use Rattle.mes_json.specs.Tokens.{Token, tokens}
 use Rattle.mes_json.specs.Machine.{State, start, run, finish}
 use Rattle.mes_json.specs.Refusal.{Refuses}
 use Rattle.mes_json.specs.Place.{Begins}
-use Rattle.mes_json.specs.Reader.{Fits, Stops, state_view}
+use Rattle.mes_json.specs.Reader.{Fits, IsRead, IsWhole, Stops, state_view}
 use Rattle.mes_json.specs.Read.{Stuck, StopsIn}
 use Rattle.mes_json.specs.Inner.{inner}
 use Rattle.mes_json.specs.Lexer.{IsCountedFault, IsReading, IsFaulty, Represents, HasLexed, text_of, nodes_of, HasNoMemory, IsOutOfMemory, held, nodes_held, IsBounded, HoldsNothing}
@@ -18,12 +18,13 @@ use Rattle.mes_json.specs.declared.fault.TextFaultKind.TheVariants.{End}
 use Rattle.mes_json.specs.declared.fault.TextFault.{TextFault}
 use Rattle.mes_json.specs.declared.fault.ReadFault as fault
 use Rattle.mes_json.specs.declared.push_error.PushError.{PushError}
-use Rattle.mes_json.specs.declared.push_error.PushError.TheVariants.{Refused}
+use Rattle.mes_json.specs.declared.push_error.PushError.TheVariants.{Refused, NoMemory}
 use Rattle.mes_json.specs.declared.reader.Reader.{Reader}
 use Rattle.mes_json.specs.declared.lexer.LexerState.{LexerState}
 use Rattle.mes_json.specs.declared.lexer.LexerState.TheVariants.{Reading, Faulty, OutOfMemory}
 use Rattle.mes_json.specs.declared.lexer.Lexer.{Lexer}
-use Rattle.mes_json.proofs.RunLemmas.{run_on}
+use Rattle.mes_json.proofs.RunLemmas.{run_on, run_one}
+use Rattle.mes_json.proofs.PlaceLemmas.{finished}
 use Rattle.mes_json.proofs.OwnedLemmas.{text_owned, nodes_owned}
 use Rattle.mes_json.proofs.ViableLemmas.{begins_from_run}
 use Rattle.mes_json.proofs.ReadLemmas.{stuck_fault, stuck_no_text, ended_fault}
@@ -71,6 +72,9 @@ gets_stuck n byte r p b f h stuck place = record {
 
 pub refused_at : (stop : PushError) (why : TextFaultKind) (s : State) (c : ℕ) → stop ≡ Refused why → Stops stop s c → Refuses MAX_NESTING why s c
 refused_at stop why s c is stops = subst (λ (x : PushError). Stops x s c) is stops
+
+pub unread_at : (stop : PushError) (s : State) (c : ℕ) → stop ≡ NoMemory → Stops stop s c → IsRead s c
+unread_at stop s c is stops = subst (λ (x : PushError). Stops x s c) is stops
 
 at_once : (s : State) (c : ℕ) (why : TextFaultKind) → Refuses MAX_NESTING why s c → Stuck s (c ∷ []) (record { byte = 0; why = why })
 unfolding run
@@ -124,6 +128,14 @@ reading_begins n r p h = begins_from_run MAX_NESTING (state_view r) p h.reached
 
 pub front_begins : (n : ℕ) (r : Reader) (p b : List ℕ) (s : State) → IsReading n r p → run MAX_NESTING (state_view r) b ≡ Some s → Begins MAX_NESTING (p ++ b)
 front_begins n r p b s h runs = begins_from_run MAX_NESTING s (p ++ b) (run_on MAX_NESTING start (state_view r) p b h.reached ∙ runs)
+
+-- some JSON text begins with the bytes that a reader has read, and a byte that it can read
+pub byte_begins : (n : ℕ) (r : Reader) (p : List ℕ) (c : ℕ) → IsReading n r p → IsRead (state_view r) c → Begins MAX_NESTING (p ++ c ∷ [])
+byte_begins n r p c h reads = front_begins n r p (c ∷ []) reads.0 h (run_one MAX_NESTING (state_view r) c ∙ reads.1)
+
+-- the bytes that a reader has read are a text, if the text may end after them
+pub whole_text : (n : ℕ) (r : Reader) (p : List ℕ) → IsReading n r p → IsWhole (state_view r) → (t : Tree) × IsText MAX_NESTING p t
+whole_text n r p h whole = (whole.0, finished MAX_NESTING p (state_view r) whole.0 h.reached whole.1)
 
 -- a JSON text begins some JSON text: itself
 pub text_begins : (p : List ℕ) (t : Tree) → IsText MAX_NESTING p t → Begins MAX_NESTING p

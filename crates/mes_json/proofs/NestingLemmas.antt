@@ -141,7 +141,14 @@ entered o old new (Ok u) c fits is_at kind enters =
     (opening o _ _ old.nesting.items c _ (form_at old at.TheVariants.Value is_at fits) enters.0 kind) enters.1 tt
 entered o old new (Err (Refused why)) c fits is_at kind enters =
     (subst (λ (w : TextFaultKind). Stops (Refused w) (state_view old) c) (sym enters.0) (too_deep o old c fits is_at enters.1 kind), tt)
-entered o old new (Err NoMemory) c fits is_at kind enters = (tt, tt)
+entered o old new (Err NoMemory) c fits is_at kind enters = (
+  (
+    _,
+    ap (λ (t : State). step MAX_NESTING t c) (view_at old at.TheVariants.Value is_at)
+        ∙ (opening o old.text.items [] old.nesting.items c (tape_of old) (form_at old at.TheVariants.Value is_at fits) enters kind).gives,
+  ),
+  tt,
+)
 
 pub first_item_ends : {A : Type 0} (old new : Reader) (result : Result A PushError) (c : ℕ) → Fits old → old.at ≡ at.TheVariants.FirstItem
     → kind_of c ≡ m.ByteClass.closing_array → OnOk result (Puts old (outer old.nesting.items) End at.TheVariants.After new)

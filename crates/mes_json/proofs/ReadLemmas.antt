@@ -1,10 +1,10 @@
 -- The error or the tree of bytes over which the state machine stops or ends.
-use Rattle.std.proofs.Common.{◌≡◌, ℕ, ◌<◌, List, length, get_or, take, Option, Some, None, option_map, refl, ap, sym, ◌∙◌, subst}
+use Rattle.std.proofs.Common.{◌≡◌, ℕ, ◌+◌, ◌<◌, List, [], ◌∷◌, ◌++◌, length, get_or, take, Option, Some, None, option_map, refl, ap, sym, ◌∙◌, subst, add-one}
 use Rattle.mes_json.specs.Tree.{Tree}
 use Rattle.mes_json.specs.Grammar.{IsText}
 use Rattle.mes_json.specs.Machine.{State, start, run, finish}
-use Rattle.mes_json.specs.Place.{IsFault, IsReadFault}
-use Rattle.mes_json.specs.Reader.{Stops}
+use Rattle.mes_json.specs.Place.{Begins, IsFault, IsReadFault}
+use Rattle.mes_json.specs.Reader.{IsWhole, Stops}
 use Rattle.mes_json.specs.Read.{fault_at, Stuck, StopsIn}
 use Rattle.mes_json.specs.Tokens.{Token, tokens}
 use Rattle.mes_json.specs.declared.limits.TheConstants.{MAX_NESTING}
@@ -13,13 +13,17 @@ use Rattle.mes_json.specs.declared.fault.TextFaultKind.TheVariants.{End}
 use Rattle.mes_json.specs.declared.fault.ReadFault as fault
 use Rattle.mes_json.specs.declared.push_error.PushError.{PushError}
 use Rattle.mes_json.specs.declared.push_error.PushError.TheVariants.{Refused, NoMemory}
+use Rattle.mes_json.proofs.RunLemmas.{run_take}
+use Rattle.mes_json.proofs.ViableLemmas.{begins_from_run}
 use Rattle.mes_json.proofs.PlaceLemmas.{refused, ended, finished, finished_only, no_text, no_text_ended}
 
 pub stops_at : (s next : State) (b : List ℕ) (n : ℕ) (stop : PushError) (e : fault.ReadFault) → e ≡ fault_at n stop → n < length b → run MAX_NESTING s (take n b) ≡ Some next
     → Stops stop next (get_or b n 0) → StopsIn s b e
 stops_at s next b n (Refused why) e is inside reached stops =
     subst (λ (x : fault.ReadFault). StopsIn s b x) (sym is) (record { inside = inside; before = next; reached = reached; refuses = stops })
-stops_at s next b n NoMemory e is inside reached stops = subst (λ (x : fault.ReadFault). StopsIn s b x) (sym is) tt
+stops_at s next b n NoMemory e is inside reached stops =
+    subst (λ (x : fault.ReadFault). StopsIn s b x) (sym is)
+    (n, record { inside = inside; next = stops.0; reached = run_take MAX_NESTING s next b n inside reached ∙ stops.1 })
 
 pub stuck_fault : (b : List ℕ) (f : TextFault) → Stuck start b f → IsFault MAX_NESTING b f
 stuck_fault b f stuck = refused MAX_NESTING b f.byte stuck.before f.why stuck.inside stuck.reached stuck.refuses
@@ -27,9 +31,21 @@ stuck_fault b f stuck = refused MAX_NESTING b f.byte stuck.before f.why stuck.in
 pub stuck_no_text : (b : List ℕ) (f : TextFault) → Stuck start b f → (t : Tree) → IsText MAX_NESTING b t → ⊥
 stuck_no_text b f stuck t h = no_text MAX_NESTING b f.byte stuck.before stuck.inside stuck.reached stuck.refuses.stuck t h
 
+-- if a text begins with some first bytes, it begins with the first one
+first_begins : (b : List ℕ) (n : ℕ) → Begins MAX_NESTING (take (n + 1) b) → Begins MAX_NESTING (take 1 b)
+first_begins [] n (q, t, h) = (q, t, subst (λ (p : List ℕ). IsText MAX_NESTING (p ++ q) t) (ap (λ (m : ℕ). take {A = ℕ} m []) (add-one n)) h)
+first_begins (c ∷ rest) n (q, t, h) = (take n rest ++ q, t, subst (λ (p : List ℕ). IsText MAX_NESTING (p ++ q) t) (ap (λ (m : ℕ). take m (c ∷ rest)) (add-one n)) h)
+
+pub text_first : (b : List ℕ) (t : Tree) → IsText MAX_NESTING b t → Begins MAX_NESTING (take 1 b)
+text_first [] t h = ([], t, h)
+text_first (c ∷ rest) t h = (rest, t, h)
+
+pub whole_first : (b : List ℕ) (s : State) → run MAX_NESTING start b ≡ Some s → IsWhole s → Begins MAX_NESTING (take 1 b)
+whole_first b s reached whole = text_first b whole.0 (finished MAX_NESTING b s whole.0 reached whole.1)
+
 pub stopped_fault : (b : List ℕ) (e : fault.ReadFault) → StopsIn start b e → IsReadFault MAX_NESTING b e
 stopped_fault b (fault.TheVariants.Text f) stops = stuck_fault b f stops
-stopped_fault b fault.TheVariants.NoMemory stops = tt
+stopped_fault b fault.TheVariants.NoMemory stops = first_begins b stops.0 (begins_from_run MAX_NESTING stops.1.next (take (stops.0 + 1) b) stops.1.reached)
 
 pub stopped_only : (b : List ℕ) (e : fault.ReadFault) → StopsIn start b e → (t : Tree) → IsText MAX_NESTING b t → e ≡ fault.TheVariants.NoMemory
 stopped_only b (fault.TheVariants.Text f) stops t h = absurd (stuck_no_text b f stops t h)

@@ -5,7 +5,7 @@ use Rattle.std.proofs.lemmas.List.{drop-append-le}
 use Rattle.mes_json.specs.Machine.{State, step, start}
 use Rattle.mes_json.specs.Refusal.{IsRefusal}
 use Rattle.mes_json.specs.Tape.{spelled, apply, span_length, spanned, HasSpan, Takes, IsTape}
-use Rattle.mes_json.specs.Reader.{due_at, with_read, read_from, state_view, IsAt, Fits, Stops, Gives, Puts, Keeps, Begins}
+use Rattle.mes_json.specs.Reader.{due_at, with_read, read_from, state_view, IsAt, Fits, IsRead, Stops, Gives, Puts, Keeps, Begins}
 use Rattle.mes_json.specs.declared.limits.TheConstants.{MAX_NESTING}
 use Rattle.mes_json.specs.declared.fault.TextFaultKind.{TextFaultKind}
 use Rattle.mes_json.specs.declared.fault.TextFaultKind.TheVariants.{End, Depth, Byte}
@@ -77,10 +77,10 @@ abbrev pub Owes : {A : Type 0} → Result A PushError → State → ℕ → Read
 Owes result s c new = Gives result s c (state_view new) × OnOk result (Fits new)
 
 pub by_result : {A : Type 0} (result : Result A PushError) (s : State) (c : ℕ) (new : Reader) (Done : Type 0)
-    → (Done → step MAX_NESTING s c ≡ Some (state_view new)) → (Done → Fits new)
+    → IsRead s c → (Done → step MAX_NESTING s c ≡ Some (state_view new)) → (Done → Fits new)
     → OnOk result Done → IfErr result (λ e. e ≡ NoMemory) → Owes result s c new
-by_result (Ok u) s c new Done gives fits ok err = (gives ok, fits ok)
-by_result (Err e) s c new Done gives fits ok err = (subst (λ (stop : PushError). Stops stop s c) (sym err) tt, tt)
+by_result (Ok u) s c new Done reads gives fits ok err = (gives ok, fits ok)
+by_result (Err e) s c new Done reads gives fits ok err = (subst (λ (stop : PushError). Stops stop s c) (sym err) reads, tt)
 
 -- the byte c leads from the state `shown` to the reader's state a, and the tape gets the node x
 pub record Moves (texts b : List ℕ) (s shown : State) (c : ℕ) (x : Node) (a : at.ReaderState) (n : List Open) : Type 0 where
@@ -94,6 +94,7 @@ pub moved : {A : Type 0} (old new : Reader) (result : Result A PushError) (c : �
     → OnOk result (Puts old n x to new) → IfErr result (λ e. e ≡ NoMemory) → Owes result (state_view old) c new
 moved old new result c from to x n fits is_at covers has moves ok err =
     by_result result (state_view old) c new _
+    (_, ap (λ (s : State). step MAX_NESTING s c) (view_at old from is_at) ∙ moves.gives)
     (λ (puts : Puts old n x to new).
     ap (λ (s : State). step MAX_NESTING s c) (view_at old from is_at) ∙ moves.gives ∙ ap (λ (s : State). Some s) (sym (put_view old new n x to puts)))
     (λ (puts : Puts old n x to new). put_fits old new n x to fits.tape fits.start (covers (covered_at old from is_at fits)) has moves.takes moves.form puts)
@@ -165,6 +166,7 @@ pub kept : {A : Type 0} (old new : Reader) (result : Result A PushError) (c : �
     → OnOk result (Keeps old b to new) → IfErr result (λ e. e ≡ NoMemory) → Owes result (state_view old) c new
 kept old new result c b from to fits is_at same_due same_form same_text leads ok err =
     by_result result (state_view old) c new _
+    (_, ap (λ (s : State). step MAX_NESTING s c) (view_at old from is_at) ∙ leads (form_at old from is_at fits))
     (λ (keeps : Keeps old b to new).
     ap (λ (s : State). step MAX_NESTING s c) (view_at old from is_at) ∙ leads (form_at old from is_at fits)
     ∙ ap (λ (s : State). Some s) (sym (kept_view old new b from to fits same_due keeps)))
@@ -182,7 +184,7 @@ stops_as (Refused why) s t c same h = record {
   stuck = same MAX_NESTING ∙ h.stuck;
   reason = is_refusal_as why MAX_NESTING s t c (same (MAX_NESTING + 1)) h.reason;
 }
-stops_as NoMemory s t c same h = tt
+stops_as NoMemory s t c same h = (h.0, same MAX_NESTING ∙ h.1)
 
 pub gives_as : {A : Type 0} (result : Result A PushError) (s t : State) (c : ℕ) (next : State) → ((d : ℕ) → step d s c ≡ step d t c) → Gives result t c next → Gives result s c next
 gives_as (Ok u) s t c next same h = same MAX_NESTING ∙ h

@@ -1,5 +1,6 @@
 -- Steps of the reader over the bytes of a literal or a number.
 use Rattle.std.proofs.Common.{◌≡◌, ℕ, arith, List, [], ◌∷◌, ◌++◌, length, true, Bool, Option, Some, None, Result, OnOk, IfErr, if◌then◌else◌, refl, ap, sym, ◌∙◌, subst}
+use Rattle.std.specs.Option.{is_some}
 use Rattle.std.specs.Str.{IsUtf8}
 use Rattle.mes_fixed.specs.Number.{IsNumber}
 use Rattle.mes_fixed.specs.Automaton.{letter_of, number_next, is_final}
@@ -11,7 +12,7 @@ use Rattle.mes_json.specs.Machine.{Frame, State, step, run, start, finish, finis
 use Rattle.mes_json.specs.Machine.State.{state}
 use Rattle.mes_json.specs.Machine.Token.{digits}
 use Rattle.mes_json.specs.Tape.{span, valued, value_due, apply, HasSpan, Takes, TakesValue}
-use Rattle.mes_json.specs.Reader.{word_view, with_read, state_view, AtValue, Fits, Reached, Gives, Puts, Keeps, Begins}
+use Rattle.mes_json.specs.Reader.{word_view, with_read, state_view, opens, AtValue, Fits, IsRead, Reached, Gives, Puts, Keeps, Begins}
 use Rattle.mes_json.specs.declared.limits.TheConstants.{MAX_NESTING}
 use Rattle.mes_json.specs.declared.literal.LiteralState.{LiteralState}
 use Rattle.mes_json.specs.declared.reader_state.ReaderState as at
@@ -47,6 +48,7 @@ pub number_begins : {A : Type 0} (old new : Reader) (result : Result A PushError
 number_begins old new result c x fits is_at kind ok err =
     let h : AtValue old.nesting.items (due at.TheVariants.Value old) = form_at old at.TheVariants.Value is_at fits in
     by_result result (state_view old) c new _
+    (_, ap (λ (s : State). step MAX_NESTING s c) (view_at old at.TheVariants.Value is_at ∙ h.is) ∙ ap (on_value MAX_NESTING h.frames) kind)
     (λ (begins : Begins old (c ∷ []) (at.TheVariants.Digits x) new).
     ap (λ (s : State). step MAX_NESTING s c) (view_at old at.TheVariants.Value is_at ∙ h.is) ∙ ap (on_value MAX_NESTING h.frames) kind
     ∙ ap (λ (s : State). Some (valued (m.ReaderState.token (digits x (c ∷ []))) s)) (sym h.is)
@@ -105,6 +107,23 @@ pub number_gives : {A : Type 0} (old new : Reader) (result : Result A PushError)
 number_gives old new result c x next h leads final gives =
     gives_as result (state_view old) (state_view new) c next
     (λ d. ap (λ (s : State). step d s c) h.before ∙ foreign d h.frames x (part old) c leads final ∙ ap (λ (s : State). step d s c) (sym h.following)) gives
+
+some_is : (o : Option State) → is_some o ≡ true → (next : State) × (o ≡ Some next)
+some_is None e = absurd (cc)
+some_is (Some next) e = (next, refl)
+
+-- after a whole number, a byte is read if it may follow a value
+pub number_precedes : (old : Reader) (c : ℕ) (x : NumberState) (follows : Bool) → Fits old → old.at ≡ at.TheVariants.Digits x
+    → (let none : Option NumberState = None in number_next x (letter_of c) ≡ none) → is_final x ≡ true
+    → ((fs : List Frame) (t : Tree) → old.nesting.items ≡ opens fs → follows ≡ is_some (on_after fs t (kind_of c))) → follows ≡ true → IsRead (state_view old) c
+number_precedes old c x follows fits is_at leads final may is =
+    let from = at.TheVariants.Digits x in
+    let h : AtValue old.nesting.items (due from old) = form_at old from is_at fits in
+    let next = some_is (on_after h.frames (number (part old)) (kind_of c)) (sym (may h.frames (number (part old)) h.are_open) ∙ is) in (
+      next.0,
+      ap (λ (s : State). step MAX_NESTING s c) (view_at old from is_at ∙ ap (valued (m.ReaderState.token (digits x (part old)))) h.is)
+          ∙ foreign MAX_NESTING h.frames x (part old) c leads final ∙ next.1,
+    )
 
 finish_as : (fs : List Frame) (x : NumberState) (n : List ℕ) → is_final x ≡ true → finish (state fs (m.ReaderState.after (number n))) ≡ finish (state fs (m.ReaderState.token (digits x n)))
 finish_as [] x n final = sym (ap (λ (b : Bool). finish_number b n) final)

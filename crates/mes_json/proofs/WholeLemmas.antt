@@ -2,19 +2,23 @@
 use Rattle.std.proofs.Common.{◌≡◌, ◌==◌, Bool, true, false, List, [], ◌∷◌, ◌++◌, length, Option, Some, option_map, ap, sym, ◌∙◌, subst, arith}
 use Rattle.std.proofs.lemmas.Grind.{common_steps}
 use Rattle.std.specs.List.{AllByRecursion}
+use Rattle.mes_fixed.specs.Automaton.{is_final}
+use Rattle.mes_fixed.specs.declared.automaton.NumberState.{NumberState}
 use Rattle.mes_json.specs.Tree.{Tree}
-use Rattle.mes_json.specs.Machine.{Frame, finish}
-use Rattle.mes_json.specs.Machine.ReaderState.{after}
+use Rattle.mes_json.specs.Tree.Tree.{number}
+use Rattle.mes_json.specs.Machine.{Frame, finish, finish_number}
+use Rattle.mes_json.specs.Machine.ReaderState.{after, token}
+use Rattle.mes_json.specs.Machine.Token.{digits}
 use Rattle.mes_json.specs.Machine.State.{state}
 use Rattle.mes_json.specs.Machine.Frame.{frame, array_frame}
-use Rattle.mes_json.specs.Reader.{opens, state_view, AfterValue, Fits, EndsWhole}
+use Rattle.mes_json.specs.Reader.{opens, state_view, AfterValue, AtValue, Fits, EndsWhole, IsWhole}
 use Rattle.mes_json.specs.Tokens.{Token, tokens}
 use Rattle.mes_json.specs.Cursor.{tokens_held}
-use Rattle.mes_json.specs.Tape.{HasSpan}
+use Rattle.mes_json.specs.Tape.{HasSpan, valued}
 use Rattle.mes_json.specs.declared.nesting.Open.{Open}
 use Rattle.mes_json.specs.declared.reader_state.ReaderState as at
 use Rattle.mes_json.specs.declared.reader.Reader.{Reader}
-use Rattle.mes_json.proofs.ReaderLemmas.{tape_of, view_at, form_at}
+use Rattle.mes_json.proofs.ReaderLemmas.{tape_of, due, part, view_at, form_at}
 use Rattle.mes_json.proofs.TokensHeld.{tokens_spelled}
 
 not_empty : (xs : List Open) (x : Open) → (length (xs ++ x ∷ []) == 0) ≡ false
@@ -44,3 +48,15 @@ tape_spans r whole found here h = by (subst (λ (b : Bool). EndsWhole b found r)
   where
     by : EndsWhole true found r → AllByRecursion (HasSpan r.text.items) r.nodes.items
     by (t, finds, is, fits) = fits.spans
+
+-- a whole number outside objects and arrays is a whole text
+pub number_is_whole : (r : Reader) (x : NumberState) → Fits r → r.at ≡ at.TheVariants.Digits x → is_final x ≡ true → true ≡ (length r.nesting.items == 0) → IsWhole (state_view r)
+number_is_whole r x fits is_at final empty =
+    let from = at.TheVariants.Digits x in
+    let h : AtValue r.nesting.items (due from r) = form_at r from is_at fits in
+    by h.frames (view_at r from is_at ∙ ap (valued (token (digits x (part r)))) h.is) (empty ∙ ap (λ (xs : List Open). length xs == 0) h.are_open)
+  where
+    by : (fs : List Frame) → state_view r ≡ state fs (token (digits x (part r))) → true ≡ (length (opens fs) == 0) → IsWhole (state_view r)
+    by [] shown e = (number (part r), ap finish shown ∙ ap (λ (b : Bool). finish_number b (part r)) final)
+    by (frame ms k ∷ fs) shown e = absurd (let both : true ≡ false = e ∙ not_empty (opens fs) _ in cc)
+    by (array_frame ts ∷ fs) shown e = absurd (let both : true ≡ false = e ∙ not_empty (opens fs) _ in cc)

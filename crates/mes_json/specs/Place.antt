@@ -26,7 +26,8 @@ pub record IsFault (d : ℕ) (b : List ℕ) (f : TextFault) : Type 0 where
   pub longest : (n : ℕ) → f.byte < n → n ≤ length b → Begins d (take n b) → ⊥
   pub reason : IsReason d b f.byte f.why
 
--- the meaning of an error that is returned for the bytes b
+-- the meaning of an error that is returned for the bytes b: an allocation can only fail at a byte
+-- with which some text goes on
 abbrev pub IsReadFault : ℕ → List ℕ → ReadFault → Type 0
 IsReadFault d b (Text f) = IsFault d b f
-IsReadFault d b NoMemory = Unit {0}
+IsReadFault d b NoMemory = Begins d (take 1 b)

@@ -187,10 +187,18 @@ pub record Fits (r : Reader) : Type 0 where
 abbrev pub Reached : Reader → Type 0
 Reached r = (p : List ℕ) × (run MAX_NESTING start p ≡ Some (state_view r))
 
+-- some text goes on with the byte c after the state s
+abbrev pub IsRead : State → ℕ → Type 0
+IsRead s c = (next : State) × (step MAX_NESTING s c ≡ Some next)
+
 -- the meaning of an error for the byte c, which was not read in the state s
 abbrev pub Stops : PushError → State → ℕ → Type 0
 Stops (Refused why) s c = Refuses MAX_NESTING why s c
-Stops NoMemory s c = Unit {0}
+Stops NoMemory s c = IsRead s c
+
+-- the text may end in the state s
+abbrev pub IsWhole : State → Type 0
+IsWhole s = (t : Tree) × (m.finish s ≡ Some t)
 
 -- on success, the byte c leads from the state s to `next`; on error, `Stops` holds
 abbrev pub Gives : {A : Type 0} → Result A PushError → State → ℕ → State → Type 0
@@ -286,7 +294,7 @@ pub record Begins (old : Reader) (b : List ℕ) (place : at.ReaderState) (new : 
 -- the meaning of an error for an object or array that was not opened
 abbrev pub NotEntered : PushError → List Open → Type 0
 NotEntered (Refused why) nesting = (why ≡ Depth) × (length nesting ≡ MAX_NESTING)
-NotEntered NoMemory nesting = Unit {0}
+NotEntered NoMemory nesting = length nesting < MAX_NESTING
 
 -- on success, an object or array is opened; on error, `NotEntered` holds
 abbrev pub Enters : {A : Type 0} → Result A PushError → Reader → Open → node.Node → at.ReaderState → Reader → Type 0

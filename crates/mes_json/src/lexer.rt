@@ -1,7 +1,7 @@
 #![tactic(auto, unfolding(crate::specs::Lexer::HasLexed, crate::specs::Lexer::IsOutOfMemory, crate::specs::Lexer::held))]
 //! Reads JSON texts that arrive in pieces. Whole texts are read in `whole_text`; the state machine
 //! is in `reader`.
-ghost use Rattle.std.specs.Prelude.{◌≡◌, ◌≢◌, ◌<◌, ℕ, List, [], ◌∷◌, ◌++◌, length, take, Err, IfOk, IfErr, MatchResult};
+ghost use Rattle.std.specs.Prelude.{◌≡◌, ◌≢◌, ◌<◌, ℕ, List, [], ◌∷◌, ◌++◌, ◌+◌, length, take, Err, IfOk, IfErr, OnErr, MatchResult};
 ghost use Rattle.mes_json.specs.Tree.{Tree};
 ghost use Rattle.mes_json.specs.Grammar.{IsText};
 ghost use Rattle.mes_json.specs.Machine.{start};
@@ -75,7 +75,8 @@ impl LexerState {
             → MatchResult result (λ tape. tape ≡ tokens t) (λ e. e ≡ ReadFault.NoMemory) }
         ensures fault { (p : List ℕ) → Represents count self.old p
             → IfErr result (λ e. IsLexFault MAX_NESTING p e) }
-        ensures reported { (p : List ℕ) → Represents count self.old p → (Begins MAX_NESTING p → ⊥)
+        ensures reported { (p : List ℕ) → Represents count self.old p
+            → ((t : Tree) → IsText MAX_NESTING p t → ⊥)
             → (HasNoMemory self.old → ⊥) → result ≢ Err ReadFault.NoMemory }
         ensures memory { HasNoMemory self.old → result ≡ Err ReadFault.NoMemory }
     {
@@ -161,9 +162,9 @@ impl Lexer {
         ensures lexed { (p : List ℕ) → HasLexed self.old p → HasLexed self.new (p ++ byte ∷ []) }
         ensures reports { Reports result self.new }
         ensures stays { IsOutOfMemory self.old → IsOutOfMemory self.new }
-        // After an error in the text, no push runs out of memory.
-        ensures swallows { (p : List ℕ) → HasLexed self.old p → (Begins MAX_NESTING p → ⊥)
-            → (IsOutOfMemory self.old → ⊥) → IsOutOfMemory self.new → ⊥ }
+        // On the first error: some text begins with the bytes pushed and this one.
+        ensures begins { (p : List ℕ) → HasLexed self.old p → (IsOutOfMemory self.old → ⊥)
+            → OnErr result (Begins MAX_NESTING (p ++ byte ∷ [])) }
     {
         match &mut self.state {
             LexerState::Reading(reader) => match reader.step(byte) {
@@ -195,16 +196,13 @@ impl Lexer {
         ensures lexed { (p : List ℕ) → HasLexed self.old p → HasLexed self.new (p ++ bytes.now) }
         ensures reports { Reports result self.new }
         ensures stays { IsOutOfMemory self.old → IsOutOfMemory self.new }
-        // After an error in the text, no push runs out of memory.
-        ensures swallows { (p : List ℕ) → HasLexed self.old p → (Begins MAX_NESTING p → ⊥)
-            → (IsOutOfMemory self.old → ⊥) → IsOutOfMemory self.new → ⊥ }
         // On error: `taken` is the offset of the first byte not pushed.
         ensures taken { IfErr result (λ refused. 0 < length bytes.now
             → refused.taken < length bytes.now) }
-        // On the first error: the bytes of the run before `taken` were pushed, and some text begins
-        // with all bytes pushed so far.
-        ensures before { (p : List ℕ) → HasLexed self.old p → (IsOutOfMemory self.old → ⊥)
-            → IfErr result (λ refused. Begins MAX_NESTING (p ++ take refused.taken bytes.now)) }
+        // On the first error: some text begins with the bytes pushed and the byte at `taken`.
+        ensures begins { (p : List ℕ) → HasLexed self.old p → (IsOutOfMemory self.old → ⊥)
+            → IfErr result (λ refused.
+            Begins MAX_NESTING (p ++ take (refused.taken + 1) bytes.now)) }
         ensures again { IsOutOfMemory self.old → IfErr result (λ refused. refused.taken ≡ 0) }
     {
         match &mut self.state {
@@ -262,9 +260,10 @@ impl Lexer {
         ensures fault { (p : List ℕ) → HasLexed self p
             → IfErr result (λ e. IsLexFault MAX_NESTING p e) }
 
-        // If no push failed, an error in the text is returned rather than `NoMemory`. After a
-        // failed push, `NoMemory` is returned.
-        ensures reported { (p : List ℕ) → HasLexed self p → (Begins MAX_NESTING p → ⊥)
+        // If no push failed, bytes that are no text give their error rather than `NoMemory`. After
+        // a failed push, `NoMemory` is returned.
+        ensures reported { (p : List ℕ) → HasLexed self p
+            → ((t : Tree) → IsText MAX_NESTING p t → ⊥)
             → (IsOutOfMemory self → ⊥) → result ≢ Err ReadFault.NoMemory }
         ensures memory { IsOutOfMemory self → result ≡ Err ReadFault.NoMemory }
     {
@@ -285,9 +284,10 @@ impl Lexer {
         // On error: as in `finish`.
         ensures fault { (p : List ℕ) → HasLexed self p
             → IfErr result (λ e. IsLexFault MAX_NESTING p e) }
-        // If no push failed, an error in the text is returned rather than `NoMemory`. After a
-        // failed push, `NoMemory` is returned.
-        ensures reported { (p : List ℕ) → HasLexed self p → (Begins MAX_NESTING p → ⊥)
+        // If no push failed, bytes that are no text give their error rather than `NoMemory`. After
+        // a failed push, `NoMemory` is returned.
+        ensures reported { (p : List ℕ) → HasLexed self p
+            → ((t : Tree) → IsText MAX_NESTING p t → ⊥)
             → (IsOutOfMemory self → ⊥) → result ≢ Err ReadFault.NoMemory }
         ensures memory { IsOutOfMemory self → result ≡ Err ReadFault.NoMemory }
     {
@@ -307,9 +307,10 @@ impl Lexer {
         // On error: as in `finish`.
         ensures fault { (p : List ℕ) → HasLexed self.old p
             → IfErr result (λ e. IsLexFault MAX_NESTING p e) }
-        // If no push failed, an error in the text is returned rather than `NoMemory`. After a
-        // failed push, `NoMemory` is returned.
-        ensures reported { (p : List ℕ) → HasLexed self.old p → (Begins MAX_NESTING p → ⊥)
+        // If no push failed, bytes that are no text give their error rather than `NoMemory`. After
+        // a failed push, `NoMemory` is returned.
+        ensures reported { (p : List ℕ) → HasLexed self.old p
+            → ((t : Tree) → IsText MAX_NESTING p t → ⊥)
             → (IsOutOfMemory self.old → ⊥) → result ≢ Err ReadFault.NoMemory }
         ensures refused { IsOutOfMemory self.old → result ≡ Err ReadFault.NoMemory }
         ensures lexed { HasLexed self.new [] }

@@ -41,6 +41,7 @@ mod push_error;
 mod push_run;
 mod reader;
 mod reader_state;
+mod reader_steps;
 mod short_string;
 mod skip;
 mod tape;

@@ -1,8 +1,9 @@
 //! Reads runs of bytes with the reader.
-ghost use Rattle.std.specs.Prelude.{◌≡◌, ◌<◌, Some, IfErr, OnOk, length, take};
-ghost use Rattle.mes_json.specs.Machine.{State, run};
+ghost use Rattle.std.specs.Prelude.{◌≡◌, ◌<◌, Some, IfErr, OnOk, length};
+ghost use Rattle.mes_json.specs.declared.push_error.PushError.TheVariants.{NoMemory as no_memory};
+ghost use Rattle.mes_json.specs.Machine.{run};
 ghost use Rattle.mes_json.specs.Reader.{Fits, Reached, state_view};
-ghost use Rattle.mes_json.specs.Read.{StopsIn, fault_at};
+ghost use Rattle.mes_json.specs.Read.{RunsPast, StopsIn, fault_at};
 
 use crate::fault::{ReadFault, TextFault};
 use crate::limits::MAX_NESTING;
@@ -47,9 +48,9 @@ impl Reader {
         ensures fault { IfErr result (λ e. StopsIn (state_view self.old) bytes.now
             (fault_at e.place e.stop)) }
         ensures inside { IfErr result (λ e. e.place < length bytes.now) }
-        // The bytes before the error were read.
-        ensures before { IfErr result (λ e. (s : State)
-            × (run MAX_NESTING (state_view self.old) (take e.place bytes.now) ≡ Some s)) }
+        // If an allocation fails, some text goes on with the byte that was not read.
+        ensures read { IfErr result (λ e. e.stop ≡ no_memory
+            → RunsPast (state_view self.old) bytes.now e.place) }
     {
         let mut place = 0;
         while place < bytes.len() {

@@ -1,19 +1,17 @@
-//! The reader, which reads a JSON text byte by byte and writes a tape. Its fast paths are in
-//! `short_string`, `member_fast_path` and `number_fast_path`.
+//! The reader, which reads a JSON text byte by byte and writes a tape. Its steps are in
+//! `reader_steps`, its fast paths in `short_string`, `member_fast_path` and `number_fast_path`.
 ghost use Rattle.std.specs.Prelude.{◌≡◌, ◌+◌, ◌<◌, ◌≤◌, [], ◌∷◌, length, option_map, slice_index, encode_utf8, IfOk, IfErr, OnOk, OnErr};
 ghost use Rattle.mes_json.specs.declared.push_error.PushError.TheVariants.{NoMemory as no_memory};
 ghost use Rattle.mes_json.specs.Machine.{start, finish};
 ghost use Rattle.mes_json.specs.Tokens.{tokens};
 ghost use Rattle.mes_json.specs.Lengths.{unreported};
-ghost use Rattle.mes_json.specs.Reader.{Fits, Reached, EndsWhole, Gives, RunsTo, Enters, Puts, Keeps, Stays, Begins, innermost, outer, string_node, following_string, state_view};
+ghost use Rattle.mes_json.specs.Reader.{Fits, Reached, EndsWhole, Gives, IsWhole, RunsTo, Enters, Puts, Keeps, Stays, Begins, innermost, outer, string_node, following_string, state_view};
 
-use crate::byte_class::ByteClass;
 use crate::characters::character_run;
 use crate::digits::{continues_number, digit_run};
 use crate::escape::{Escape, Move, whole_escape};
 use crate::fault::TextFaultKind;
 use crate::limits::MAX_NESTING;
-use crate::literal::{LiteralState, LiteralStep};
 use crate::memory::NoMemory;
 use crate::nesting::Open;
 use crate::node_buffer::Nodes;
@@ -24,7 +22,7 @@ use crate::text_buffer::Texts;
 use crate::utf8::Utf8State;
 use crate::whitespace::blank_run;
 use arrayvec::ArrayVec;
-use mes_fixed::automaton::{NumberState, may_end, next_state};
+use mes_fixed::automaton::{NumberState, may_end};
 use std::alloc::Global;
 use std::mem;
 
@@ -274,7 +272,9 @@ impl Reader {
     pub(crate) fn take_tape(&mut self, alloc: Global) -> Result<Option<Tape>, NoMemory>
         requires fits { Fits self.old }
         requires reached { Reached self.old }
-        ensures { IfOk result (λ tape. tape ≡ option_map tokens (finish (state_view self.old))) }
+        ensures ok { IfOk result (λ tape. tape
+            ≡ option_map tokens (finish (state_view self.old))) }
+        ensures err { OnErr result (IsWhole (state_view self.old)) }
     {
         if self.ends()? {
             let text = mem::replace(&mut self.text, Texts::new(alloc));
@@ -289,7 +289,8 @@ impl Reader {
     pub(crate) fn into_tape(mut self, alloc: Global) -> Result<Option<Tape>, NoMemory>
         requires fits { Fits self }
         requires reached { Reached self }
-        ensures { IfOk result (λ tape. tape ≡ option_map tokens (finish (state_view self))) }
+        ensures ok { IfOk result (λ tape. tape ≡ option_map tokens (finish (state_view self))) }
+        ensures err { OnErr result (IsWhole (state_view self)) }
     {
         self.take_tape(alloc)
     }
@@ -313,241 +314,17 @@ impl Reader {
     fn ends(&mut self) -> Result<bool, NoMemory>
         requires fits { Fits self.old }
         requires reached { Reached self.old }
-        ensures { IfOk result (λ whole. EndsWhole whole (finish (state_view self.old)) self.new) }
+        ensures ok { IfOk result (λ whole. EndsWhole whole (finish (state_view self.old)) self.new) }
+        ensures err { OnErr result (IsWhole (state_view self.old)) }
     {
         match self.at {
             ReaderState::After => Ok(self.nesting.is_empty()),
-            ReaderState::Digits(part) if may_end(part) => {
+            // No node is made for a number in an open object or array.
+            ReaderState::Digits(part) if may_end(part) && self.nesting.is_empty() => {
                 self.end_number()?;
-                Ok(self.nesting.is_empty())
+                Ok(true)
             }
             _ => Ok(false),
-        }
-    }
-}
-
-// One method for each state of the reader. Each reads the next byte.
-impl Reader {
-    #[inline(always)]
-    fn value(&mut self, byte: u8) -> Result<(), PushError>
-        requires at { self.old.at ≡ ReaderState.Value }
-        requires fits { Fits self.old }
-        ensures gives { Gives result (state_view self.old) byte (state_view self.new) }
-        ensures fits { OnOk result (Fits self.new) }
-    {
-        match ByteClass::of(byte) {
-            ByteClass::Blank => Ok(()),
-            ByteClass::Quote => {
-                self.begin(ReaderState::Quoted(Purpose::Value, Utf8State::Between));
-                Ok(())
-            }
-            ByteClass::Opening => self.enter(
-                Open::Object,
-                Node::Map { length: 0 },
-                ReaderState::FirstName,
-            ),
-            ByteClass::OpeningArray => self.enter(
-                Open::Array,
-                Node::List { length: 0 },
-                ReaderState::FirstItem,
-            ),
-            ByteClass::Literal(word) => {
-                self.at = ReaderState::Literal(word);
-                Ok(())
-            }
-            ByteClass::Digits(part) => self.begin_number(byte, part),
-            _ => Err(PushError::Refused(TextFaultKind::Byte)),
-        }
-    }
-
-    #[inline(always)]
-    fn first_item(&mut self, byte: u8) -> Result<(), PushError>
-        requires at { self.old.at ≡ ReaderState.FirstItem }
-        requires fits { Fits self.old }
-        ensures gives { Gives result (state_view self.old) byte (state_view self.new) }
-        ensures fits { OnOk result (Fits self.new) }
-    {
-        match ByteClass::of(byte) {
-            ByteClass::Blank => Ok(()),
-            ByteClass::ClosingArray => self.leave(),
-            _ => {
-                self.at = ReaderState::Value;
-                self.value(byte)
-            }
-        }
-    }
-
-    #[inline(always)]
-    fn first_name(&mut self, byte: u8) -> Result<(), PushError>
-        requires at { self.old.at ≡ ReaderState.FirstName }
-        requires fits { Fits self.old }
-        ensures gives { Gives result (state_view self.old) byte (state_view self.new) }
-        ensures fits { OnOk result (Fits self.new) }
-    {
-        match ByteClass::of(byte) {
-            ByteClass::Blank => Ok(()),
-            ByteClass::Quote => {
-                self.begin(ReaderState::Quoted(Purpose::Name, Utf8State::Between));
-                Ok(())
-            }
-            ByteClass::Closing => self.leave(),
-            _ => Err(PushError::Refused(TextFaultKind::Byte)),
-        }
-    }
-
-    #[inline(always)]
-    fn name(&mut self, byte: u8) -> Result<(), PushError>
-        requires at { self.old.at ≡ ReaderState.Name }
-        requires fits { Fits self.old }
-        ensures gives { Gives result (state_view self.old) byte (state_view self.new) }
-        ensures fits { OnOk result (Fits self.new) }
-    {
-        match ByteClass::of(byte) {
-            ByteClass::Blank => Ok(()),
-            ByteClass::Quote => {
-                self.begin(ReaderState::Quoted(Purpose::Name, Utf8State::Between));
-                Ok(())
-            }
-            _ => Err(PushError::Refused(TextFaultKind::Byte)),
-        }
-    }
-
-    #[inline(always)]
-    fn colon(&mut self, byte: u8) -> Result<(), PushError>
-        requires at { self.old.at ≡ ReaderState.Colon }
-        requires fits { Fits self.old }
-        ensures gives { Gives result (state_view self.old) byte (state_view self.new) }
-        ensures fits { OnOk result (Fits self.new) }
-    {
-        match ByteClass::of(byte) {
-            ByteClass::Blank => Ok(()),
-            ByteClass::Colon => {
-                self.at = ReaderState::Value;
-                Ok(())
-            }
-            _ => Err(PushError::Refused(TextFaultKind::Byte)),
-        }
-    }
-
-    #[inline(always)]
-    fn after(&mut self, byte: u8) -> Result<(), PushError>
-        requires at { self.old.at ≡ ReaderState.After }
-        requires fits { Fits self.old }
-        ensures gives { Gives result (state_view self.old) byte (state_view self.new) }
-        ensures fits { OnOk result (Fits self.new) }
-    {
-        match ByteClass::of(byte) {
-            ByteClass::Blank => Ok(()),
-            ByteClass::Comma => match self.innermost() {
-                Some(Open::Object) => {
-                    self.at = ReaderState::Name;
-                    Ok(())
-                }
-                Some(Open::Array) => {
-                    self.at = ReaderState::Value;
-                    Ok(())
-                }
-                None => Err(PushError::Refused(TextFaultKind::Byte)),
-            },
-            ByteClass::Closing => match self.innermost() {
-                Some(Open::Object) => self.leave(),
-                Some(Open::Array) => Err(PushError::Refused(TextFaultKind::Byte)),
-                None => Err(PushError::Refused(TextFaultKind::Byte)),
-            },
-            ByteClass::ClosingArray => match self.innermost() {
-                Some(Open::Array) => self.leave(),
-                Some(Open::Object) => Err(PushError::Refused(TextFaultKind::Byte)),
-                None => Err(PushError::Refused(TextFaultKind::Byte)),
-            },
-            _ => Err(PushError::Refused(TextFaultKind::Byte)),
-        }
-    }
-
-    #[inline(always)]
-    fn quoted(&mut self, purpose: Purpose, mid: Utf8State, byte: u8) -> Result<(), PushError>
-        requires at { self.old.at ≡ ReaderState.Quoted purpose mid }
-        requires fits { Fits self.old }
-        requires reached { Reached self.old }
-        ensures gives { Gives result (state_view self.old) byte (state_view self.new) }
-        ensures fits { OnOk result (Fits self.new) }
-    {
-        match mid {
-            Utf8State::Between => match byte {
-                b'"' => self.end_string(purpose),
-                b'\\' => {
-                    self.at = ReaderState::Quoted(purpose, Utf8State::Escape(Escape::Backslash));
-                    Ok(())
-                }
-                0..=0x1F => Err(PushError::Refused(TextFaultKind::Byte)),
-                _ => match Utf8State::lead(byte) {
-                    Some(next) => self.keep(byte, ReaderState::Quoted(purpose, next)),
-                    None => Err(PushError::Refused(TextFaultKind::Byte)),
-                },
-            },
-            Utf8State::Within { more, least, most } => {
-                if byte < least || byte > most {
-                    return Err(PushError::Refused(TextFaultKind::Byte));
-                }
-                self.keep(byte, ReaderState::Quoted(purpose, Utf8State::after(more)))
-            }
-            Utf8State::Escape(escape) => self.escaped(purpose, escape, byte),
-        }
-    }
-
-    #[inline(always)]
-    fn escaped(&mut self, purpose: Purpose, escape: Escape, byte: u8) -> Result<(), PushError>
-        requires at { self.old.at ≡ ReaderState.Quoted purpose (Utf8State.Escape escape) }
-        requires fits { Fits self.old }
-        requires reached { Reached self.old }
-        ensures gives { Gives result (state_view self.old) byte (state_view self.new) }
-        ensures fits { OnOk result (Fits self.new) }
-    {
-        match escape.step(byte) {
-            Move::On(next) => {
-                self.at = ReaderState::Quoted(purpose, Utf8State::Escape(next));
-                Ok(())
-            }
-            Move::Makes(character) => {
-                self.keep_character(character, ReaderState::Quoted(purpose, Utf8State::Between))
-            }
-            Move::Refused => Err(PushError::Refused(TextFaultKind::Byte)),
-        }
-    }
-
-    fn literal(&mut self, word: LiteralState, byte: u8) -> Result<(), PushError>
-        requires at { self.old.at ≡ ReaderState.Literal word }
-        requires fits { Fits self.old }
-        ensures gives { Gives result (state_view self.old) byte (state_view self.new) }
-        ensures fits { OnOk result (Fits self.new) }
-    {
-        match word.next(byte) {
-            Some(LiteralStep::More(next)) => {
-                self.at = ReaderState::Literal(next);
-                Ok(())
-            }
-            Some(LiteralStep::Null) => self.put(Node::Null, ReaderState::After),
-            Some(LiteralStep::Bool(truth)) => self.put(Node::Bool(truth), ReaderState::After),
-            None => Err(PushError::Refused(TextFaultKind::Byte)),
-        }
-    }
-
-    #[inline(always)]
-    fn digits(&mut self, part: NumberState, byte: u8) -> Result<(), PushError>
-        requires at { self.old.at ≡ ReaderState.Digits part }
-        requires fits { Fits self.old }
-        requires reached { Reached self.old }
-        ensures gives { Gives result (state_view self.old) byte (state_view self.new) }
-        ensures fits { OnOk result (Fits self.new) }
-    {
-        match next_state(part, byte) {
-            Some(next) => self.keep(byte, ReaderState::Digits(next)),
-            None => {
-                if !may_end(part) {
-                    return Err(PushError::Refused(TextFaultKind::Byte));
-                }
-                self.end_number()?;
-                self.after(byte)
-            }
         }
     }
 }
@@ -562,7 +339,12 @@ impl Reader {
     }
 
     #[inline(always)]
-    fn enter(&mut self, open_one: Open, node: Node, at: ReaderState) -> Result<(), PushError>
+    pub(crate) fn enter(
+        &mut self,
+        open_one: Open,
+        node: Node,
+        at: ReaderState,
+    ) -> Result<(), PushError>
         requires { unreported node ≡ node }
         ensures { Enters result self.old open_one node at self.new }
     {
@@ -574,7 +356,7 @@ impl Reader {
     }
 
     #[inline(always)]
-    fn leave(&mut self) -> Result<(), PushError>
+    pub(crate) fn leave(&mut self) -> Result<(), PushError>
         ensures ok { OnOk result (Puts self.old (outer self.old.nesting.items) Node.End
             ReaderState.After self.new) }
         ensures err { IfErr result (λ e. e ≡ no_memory) }
@@ -596,7 +378,7 @@ impl Reader {
     }
 
     #[inline(always)]
-    fn end_string(&mut self, purpose: Purpose) -> Result<(), PushError>
+    pub(crate) fn end_string(&mut self, purpose: Purpose) -> Result<(), PushError>
         requires { self.old.start ≤ length self.old.text.items }
         ensures ok { OnOk result (Puts self.old self.old.nesting.items
             (string_node purpose self.old) (following_string purpose) self.new) }
@@ -628,7 +410,7 @@ impl Reader {
     }
 
     /// Begins a number with its first byte.
-    fn begin_number(&mut self, byte: u8, part: NumberState) -> Result<(), PushError>
+    pub(crate) fn begin_number(&mut self, byte: u8, part: NumberState) -> Result<(), PushError>
         ensures ok { OnOk result (Begins self.old (byte ∷ []) (ReaderState.Digits part) self.new) }
         ensures err { IfErr result (λ e. e ≡ no_memory) }
     {
@@ -650,7 +432,7 @@ impl Reader {
 
     /// Appends a byte to the string or number that is being read.
     #[inline(always)]
-    fn keep(&mut self, byte: u8, at: ReaderState) -> Result<(), PushError>
+    pub(crate) fn keep(&mut self, byte: u8, at: ReaderState) -> Result<(), PushError>
         ensures ok { OnOk result (Keeps self.old (byte ∷ []) at self.new) }
         ensures err { IfErr result (λ e. e ≡ no_memory) }
     {
@@ -661,7 +443,11 @@ impl Reader {
 
     /// Appends a character to the string that is being read.
     #[inline(always)]
-    fn keep_character(&mut self, character: char, at: ReaderState) -> Result<(), PushError>
+    pub(crate) fn keep_character(
+        &mut self,
+        character: char,
+        at: ReaderState,
+    ) -> Result<(), PushError>
         ensures ok { OnOk result (Keeps self.old (encode_utf8 character) at self.new) }
         ensures err { IfErr result (λ e. e ≡ no_memory) }
     {
@@ -687,7 +473,7 @@ impl Reader {
     }
 
     #[inline(always)]
-    fn put(&mut self, node: Node, at: ReaderState) -> Result<(), PushError>
+    pub(crate) fn put(&mut self, node: Node, at: ReaderState) -> Result<(), PushError>
         requires { unreported node ≡ node }
         ensures ok { OnOk result (Puts self.old self.old.nesting.items node at self.new) }
         ensures err { IfErr result (λ e. e ≡ no_memory) }

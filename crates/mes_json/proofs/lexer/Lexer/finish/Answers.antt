@@ -1,6 +1,5 @@
 use Rattle.std.proofs.lemmas.Result.{err_from_is_err_and}
 use Rattle.mes_json.proofs.TreeLemmas.{tree_read, tree_only}
-use Rattle.mes_json.proofs.LexerLemmas.{text_begins}
 use Rattle.mes_json.proofs.lexer.Lexer.finish.Goals as goal
 
 pub returns-in_err-tape-clause-only : goal.returns-in_err-tape-clause-only
@@ -18,4 +17,4 @@ returns-clause-only c p h t text =
 pub returns-in_err-to_json-clause-reported : goal.returns-in_err-to_json-clause-reported
 returns-in_err-to_json-clause-reported c p h no_text memory =
     let text = c.in_ok-tape.ensures.read p h in
-    absurd (no_text (text_begins p text.0 text.1))
+    absurd (no_text text.0 text.1)

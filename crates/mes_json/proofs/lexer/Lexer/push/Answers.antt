@@ -4,7 +4,7 @@ use Rattle.mes_json.specs.declared.limits.TheConstants.{MAX_NESTING}
 use Rattle.mes_json.proofs.RunLemmas.{run_one}
 use Rattle.mes_json.specs.declared.lexer.LexerState.{LexerState}
 use Rattle.mes_json.specs.Lexer.{Represents, HasLexed}
-use Rattle.mes_json.proofs.LexerLemmas.{state_at, reading_at, goes_on, refused_at, sticks, stays_faulty, reading_begins}
+use Rattle.mes_json.proofs.LexerLemmas.{state_at, reading_at, goes_on, refused_at, sticks, stays_faulty, byte_begins, unread_at}
 use Rattle.mes_json.proofs.lexer.Lexer.push.Goals as goal
 
 pub invariant_of-self : goal.invariant_of-self
@@ -39,6 +39,7 @@ pub returns-in-Faulty-clause-lexed : goal.returns-in-Faulty-clause-lexed
 unfolding HasLexed
 returns-in-Faulty-clause-lexed c p h = stays_faulty _ _ _ p (c.args.byte ∷ []) c.in-Faulty.is (state_at _ _ _ p c.self.view_is h)
 
-pub returns-in-Err-NoMemory-clause-swallows : goal.returns-in-Err-NoMemory-clause-swallows
-returns-in-Err-NoMemory-clause-swallows c p h no_text before after =
-    absurd (no_text (reading_begins _ c.in-Reading.reader p (reading_at _ _ _ p c.in-Reading.is (state_at _ _ _ p c.self.view_is h))))
+pub returns-in-Err-NoMemory-clause-begins : goal.returns-in-Err-NoMemory-clause-begins
+returns-in-Err-NoMemory-clause-begins c p h memory =
+    byte_begins _ c.in-Reading.reader p c.args.byte (reading_at _ _ _ p c.in-Reading.is (state_at _ _ _ p c.self.view_is h))
+    (unread_at c.in-Err-NoMemory.field-0 (state_view c.in-Reading.reader) c.args.byte c.in-Err-NoMemory.field-0-is c.in-Err-NoMemory.ensures.gives)

@@ -1,7 +1,7 @@
 use Rattle.std.proofs.Common.{ap}
 use Rattle.mes_json.specs.Lexer.{HasLexed}
 use Rattle.mes_json.specs.Read.{fault_at}
-use Rattle.mes_json.proofs.LexerLemmas.{state_at, reading_at, goes_on, stuck_at, gets_stuck, stays_faulty, reading_begins, front_begins}
+use Rattle.mes_json.proofs.LexerLemmas.{state_at, reading_at, goes_on, stuck_at, gets_stuck, stays_faulty, front_begins}
 use Rattle.mes_json.proofs.lexer.Lexer.push_run.Goals as goal
 
 pub invariant_of-self : goal.invariant_of-self
@@ -34,10 +34,7 @@ pub returns-in-Faulty-clause-lexed : goal.returns-in-Faulty-clause-lexed
 unfolding HasLexed
 returns-in-Faulty-clause-lexed c p h = stays_faulty _ _ _ p c.args.bytes.now c.in-Faulty.is (state_at _ _ _ p c.self.view_is h)
 
-pub returns-in-NoMemory-clause-swallows : goal.returns-in-NoMemory-clause-swallows
-returns-in-NoMemory-clause-swallows c p h no_text before after =
-    absurd (no_text (reading_begins _ c.in-Reading.reader p (reading_at _ _ _ p c.in-Reading.is (state_at _ _ _ p c.self.view_is h))))
-
-pub returns-in-NoMemory-clause-before : goal.returns-in-NoMemory-clause-before
-returns-in-NoMemory-clause-before c = λ p h memory.
-    front_begins _ c.in-Reading.reader p _ c.in-Err.ensures.before.0 (reading_at _ _ _ p c.in-Reading.is (state_at _ _ _ p c.self.view_is h)) c.in-Err.ensures.before.1
+pub returns-in-NoMemory-clause-begins : goal.returns-in-NoMemory-clause-begins
+returns-in-NoMemory-clause-begins c = λ p h memory.
+    let read = c.in-Err.ensures.read c.in-NoMemory.is in
+    front_begins _ c.in-Reading.reader p _ read.next (reading_at _ _ _ p c.in-Reading.is (state_at _ _ _ p c.self.view_is h)) read.reached

@@ -2,8 +2,10 @@ use Rattle.std.proofs.Common.{◌+◌, refl, arith, take, ◌∙◌}
 use Rattle.mes_json.specs.Machine.{run}
 use Rattle.mes_json.specs.Reader.{state_view}
 use Rattle.mes_json.specs.declared.limits.TheConstants.{MAX_NESTING}
+use Rattle.mes_json.proofs.ReadLemmas.{stops_at}
 use Rattle.mes_json.proofs.RunLemmas.{run_take}
 use Rattle.mes_json.proofs.TakenLemmas.{reached_over}
+use Rattle.mes_json.proofs.LexerLemmas.{unread_at}
 use Rattle.mes_json.proofs.reader.Reader.take_bytes.Goals as goal
 
 pub loop-place-init : goal.loop-place-init
@@ -25,3 +27,16 @@ loop-place-preserved c = record {
   reached = c.take_run-place.ensures.runs (state_view c.args.self.now)
       (run_take MAX_NESTING _ _ c.args.bytes.now c.loop-place.place c.loop-place-test.true c.loop-place.invariant.reached ∙ c.in_default.ensures.gives);
 }
+
+pub returns-in-Err-clause-read : goal.returns-in-Err-clause-read
+returns-in-Err-clause-read c no_memory =
+    let read = unread_at c.in-Err.stop _ _ no_memory c.in-Err.ensures.gives in
+    record {
+      inside = c.loop-place-test.true;
+      next = read.0;
+      reached = run_take MAX_NESTING _ _ c.args.bytes.now c.loop-place.place c.loop-place-test.true c.loop-place.invariant.reached ∙ read.1;
+    }
+
+pub returns-in-Err-clause-fault : goal.returns-in-Err-clause-fault
+returns-in-Err-clause-fault c =
+    stops_at _ _ c.args.bytes.now c.loop-place.place c.in-Err.stop _ refl c.loop-place-test.true c.loop-place.invariant.reached c.in-Err.ensures.gives
