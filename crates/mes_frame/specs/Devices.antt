@@ -6,7 +6,3 @@ use Rattle.mes_frame.specs.declared.counts.Counts.{Counts}
 pub record Device : Type 0 where
   pub bytes : Option (List ℕ)
   pub counts : Counts
-
--- the observable state of d
-abbrev pub device_of : {D : Type 0} → (D → Option (List ℕ)) → (D → Counts) → D → Device
-device_of bytes counts d = record { bytes = bytes d; counts = counts d }

@@ -1,25 +1,22 @@
 -- The effects of the devices over memory.
 use Rattle.std.specs.Prelude.{◌≡◌, ℕ, ◌-◌, ◌<◌, min, max, List, [], Option, Some, Result, Ok, Err, length}
 use Rattle.mes_frame.specs.Counts.{no_calls}
-use Rattle.mes_frame.specs.declared.counts.Counts.{Counts}
+use Rattle.mes_frame.specs.Devices.{Device}
 use Rattle.mes_frame.specs.declared.memory_source.MemorySource.{MemorySource}
 use Rattle.mes_frame.specs.declared.memory_sink.MemorySink.{MemorySink}
 use Rattle.mes_frame.specs.declared.memory_sink.MemoryStop.{MemoryStop}
 use Rattle.mes_frame.specs.declared.memory_sink.MemoryStop.TheVariants.{Fails, TakesNone}
 
--- the bytes that a reader has left to read
-abbrev pub left_of : MemorySource → Option (List ℕ)
-left_of s = Some s.bytes.now
-
-abbrev pub reads_of : MemorySource → Counts
-reads_of s = s.counts
+-- the bytes that a reader has left to read, and the counts of its reads
+abbrev pub source_of : MemorySource → Device
+source_of s = record { bytes = Some s.bytes.now; counts = s.counts }
 
 -- a reader of `bytes`, at most `most` a call, that fails after `good` of them
 pub record SourceIs (bytes : List ℕ) (most good : ℕ) (s : MemorySource) : Type 0 where
-  pub left : left_of s ≡ Some bytes
+  pub left : (source_of s).bytes ≡ Some bytes
   pub most_is : s.most ≡ most
   pub good_is : s.good ≡ good
-  pub counts : reads_of s ≡ no_calls
+  pub counts : (source_of s).counts ≡ no_calls
 
 -- a call returns as many bytes as it may, at least one, and fails if and only if no good bytes are
 -- left
@@ -29,20 +26,17 @@ SourceGives old new remaining (Ok n) =
     × (new.most ≡ old.most) × (new.good ≡ old.good - n)
 SourceGives old new remaining (Err e) = (old.good ≡ 0) × (new.most ≡ old.most) × (new.good ≡ old.good)
 
--- the bytes that a writer has written
-abbrev pub written_of : MemorySink → Option (List ℕ)
-written_of s = Some s.bytes.items
-
-abbrev pub writes_of : MemorySink → Counts
-writes_of s = s.counts
+-- the bytes that a writer has written, and the counts of its writes
+abbrev pub sink_of : MemorySink → Device
+sink_of s = record { bytes = Some s.bytes.items; counts = s.counts }
 
 -- a writer that has written nothing, takes at most `most` bytes a call, and stops after `good`
 pub record SinkIs (most good : ℕ) (stop : MemoryStop) (s : MemorySink) : Type 0 where
-  pub written : written_of s ≡ Some []
+  pub written : (sink_of s).bytes ≡ Some []
   pub most_is : s.most ≡ most
   pub good_is : s.good ≡ good
   pub stop_is : s.stop ≡ stop
-  pub counts : writes_of s ≡ no_calls
+  pub counts : (sink_of s).counts ≡ no_calls
 
 -- a call takes as many bytes as it may; it fails after the good bytes if `stop` is Fails, or out of
 -- memory

@@ -29,11 +29,11 @@ impl ChunkBuffer {
     // Appends `bytes` to the buffer. If the buffer lacks room, writes the buffered bytes first, and
     // then also `bytes` if they exceed the empty buffer.
     pub(crate) fn hold<W: Sink>(&mut self, writer: &mut W, bytes: &[u8]) -> Result<(), WriteFault>
-        ensures ok { OnOk result (Passes (W.written writer.old) (W.written writer.new)
-            (W.counts writer.old) (W.counts writer.new)
+        ensures ok { OnOk result (Passes (W.device writer.old).bytes (W.device writer.new).bytes
+            (W.device writer.old).counts (W.device writer.new).counts
             (self.old.held.items ++ bytes.now) self.new.held.items self.old.sent self.new.sent) }
-        ensures err { IfErr result (λ f. Stops (W.written writer.old) (W.written writer.new)
-            (W.counts writer.old) (W.counts writer.new)
+        ensures err { IfErr result (λ f. Stops (W.device writer.old).bytes (W.device writer.new).bytes
+            (W.device writer.old).counts (W.device writer.new).counts
             (self.old.held.items ++ bytes.now) self.old.sent f) }
     {
         if self.held.try_extend_from_slice(bytes).is_ok() {
@@ -47,12 +47,12 @@ impl ChunkBuffer {
     }
 
     pub(crate) fn flush<W: Sink>(&mut self, writer: &mut W) -> Result<(), WriteFault>
-        ensures ok { OnOk result (WentOut (W.written writer.old) (W.written writer.new)
-            (W.counts writer.old) (W.counts writer.new)
+        ensures ok { OnOk result (WentOut (W.device writer.old).bytes (W.device writer.new).bytes
+            (W.device writer.old).counts (W.device writer.new).counts
             self.old.held.items self.old.sent self.new.sent) }
         ensures ok_held { OnOk result (self.new.held.items ≡ []) }
-        ensures err { IfErr result (λ f. Stops (W.written writer.old) (W.written writer.new)
-            (W.counts writer.old) (W.counts writer.new)
+        ensures err { IfErr result (λ f. Stops (W.device writer.old).bytes (W.device writer.new).bytes
+            (W.device writer.old).counts (W.device writer.new).counts
             self.old.held.items self.old.sent f) }
     {
         self.sent = write_part(writer, self.held.as_slice(), self.sent)?;

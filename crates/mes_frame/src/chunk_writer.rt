@@ -22,19 +22,19 @@ pub fn write_chunked<W: Sink>(writer: &mut W, body: &[u8], most: u32) -> Result<
     requires greatest { most ≤ MAX_CHUNK }
     // On success: the whole body was written, and no call failed or wrote nothing.
     ensures ok { OnOk result ((w : List ℕ) × IsFrames body.now most w
-        × Appends (W.written writer.old) (W.written writer.new) w) }
-    ensures ok_counts { OnOk result (NoneFails (W.counts writer.old) (W.counts writer.new)) }
+        × Appends (W.device writer.old).bytes (W.device writer.new).bytes w) }
+    ensures ok_counts { OnOk result (NoneFails (W.device writer.old).counts (W.device writer.new).counts) }
 
     // On error: exactly the first `sent` bytes were written (`sent` saturates at 2^64 - 1), and one
     // call failed as `why` says.
     ensures err { IfErr result (λ f. (w : List ℕ) × IsFrames body.now most w
-        × WroteFront (W.written writer.old) (W.written writer.new) w f.sent) }
+        × WroteFront (W.device writer.old).bytes (W.device writer.new).bytes w f.sent) }
     ensures err_counts { IfErr result
-        (λ f. StopsWrite f.why (W.counts writer.old) (W.counts writer.new)) }
+        (λ f. StopsWrite f.why (W.device writer.old).counts (W.device writer.new).counts) }
 
     // At least one call was made, and at most one for each byte.
     ensures calls { (w : List ℕ) × IsFrames body.now most w
-        × CallsFor (length w) (W.counts writer.old) (W.counts writer.new) }
+        × CallsFor (length w) (W.device writer.old).counts (W.device writer.new).counts }
 {
     let mut buffer = ChunkBuffer::new();
     let mut rest = body;
@@ -53,12 +53,12 @@ fn write_piece<W: Sink>(
     piece: &[u8],
     buffer: &mut ChunkBuffer,
 ) -> Result<(), WriteFault>
-    ensures ok { OnOk result (Passes (W.written writer.old) (W.written writer.new)
-        (W.counts writer.old) (W.counts writer.new)
+    ensures ok { OnOk result (Passes (W.device writer.old).bytes (W.device writer.new).bytes
+        (W.device writer.old).counts (W.device writer.new).counts
         (buffer.old.held.items ++ piece_bytes piece.now) buffer.new.held.items buffer.old.sent
         buffer.new.sent) }
-    ensures err { IfErr result (λ f. Stops (W.written writer.old) (W.written writer.new)
-        (W.counts writer.old) (W.counts writer.new)
+    ensures err { IfErr result (λ f. Stops (W.device writer.old).bytes (W.device writer.new).bytes
+        (W.device writer.old).counts (W.device writer.new).counts
         (buffer.old.held.items ++ piece_bytes piece.now) buffer.old.sent f) }
 {
     let mut digits = [0; MAX_CHUNK_LINE_WRITTEN];

@@ -3,7 +3,7 @@
 ghost use Rattle.std.specs.Prelude.{◌≡◌, ◌≤◌, length, Some, IfOk};
 ghost use Rattle.std.specs.Io.KnownBytes.{WriteAppends};
 ghost use Rattle.mes_frame.specs.Counts.{CountsCall};
-ghost use Rattle.mes_frame.specs.Memory.{written_of, writes_of, SinkIs, SinkTakes};
+ghost use Rattle.mes_frame.specs.Memory.{sink_of, SinkIs, SinkTakes};
 
 use crate::counts::Counts;
 use crate::device::Sink;
@@ -52,21 +52,21 @@ impl MemorySink {
 
     /// Returns the counts of calls.
     pub fn counts(&self) -> Counts
-        ensures { result ≡ writes_of self.now }
+        ensures { result ≡ (sink_of self.now).counts }
     {
         self.counts
     }
 
     /// Returns the bytes written.
     pub fn bytes(&self) -> &[u8]
-        ensures { written_of self.now ≡ Some result.now }
+        ensures { (sink_of self.now).bytes ≡ Some result.now }
     {
         self.bytes.as_slice()
     }
 
     fn take(&mut self, bytes: &[u8]) -> io::Result<usize>
         ensures within { IfOk result (λ n. n ≤ length bytes.now) }
-        ensures bytes { WriteAppends (written_of self.old) (written_of self.new) result bytes.now }
+        ensures bytes { WriteAppends (sink_of self.old).bytes (sink_of self.new).bytes result bytes.now }
         ensures takes { SinkTakes self.old self.new (length bytes.now) result }
         ensures counts { self.new.counts ≡ self.old.counts }
     {
@@ -84,14 +84,12 @@ impl MemorySink {
 }
 
 impl Sink for MemorySink {
-    ghost written = { written_of };
-
-    ghost counts = { writes_of };
+    ghost device = { sink_of };
 
     fn put(&mut self, bytes: &[u8]) -> io::Result<usize>
         ensures within { IfOk result (λ n. n ≤ length bytes.now) }
-        ensures bytes { WriteAppends (written_of self.old) (written_of self.new) result bytes.now }
-        ensures counted { CountsCall (writes_of self.old) (writes_of self.new) (length bytes.now)
+        ensures bytes { WriteAppends (sink_of self.old).bytes (sink_of self.new).bytes result bytes.now }
+        ensures counted { CountsCall (sink_of self.old).counts (sink_of self.new).counts (length bytes.now)
             result }
         ensures takes { SinkTakes self.old self.new (length bytes.now) result }
     {

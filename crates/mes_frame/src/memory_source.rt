@@ -3,7 +3,7 @@
 ghost use Rattle.std.specs.Prelude.{◌≡◌, ◌≤◌, length, IfOk};
 ghost use Rattle.std.specs.Io.KnownBytes.{ReadConsumes};
 ghost use Rattle.mes_frame.specs.Counts.{CountsCall};
-ghost use Rattle.mes_frame.specs.Memory.{left_of, reads_of, SourceIs, SourceGives};
+ghost use Rattle.mes_frame.specs.Memory.{source_of, SourceIs, SourceGives};
 
 use crate::counts::Counts;
 use crate::device::Source;
@@ -40,14 +40,14 @@ impl<'a> MemorySource<'a> {
 
     /// Returns the counts of calls.
     pub fn counts(&self) -> Counts
-        ensures { result ≡ reads_of self.now }
+        ensures { result ≡ (source_of self.now).counts }
     {
         self.counts
     }
 
     fn give(&mut self, buffer: &mut [u8]) -> io::Result<usize>
         ensures within { IfOk result (λ n. n ≤ length buffer.new) }
-        ensures bytes { ReadConsumes (left_of self.old) (left_of self.new) result buffer.new }
+        ensures bytes { ReadConsumes (source_of self.old).bytes (source_of self.new).bytes result buffer.new }
         ensures gives { SourceGives self.old self.new (length buffer.old) result }
         ensures counts { self.new.counts ≡ self.old.counts }
     {
@@ -64,14 +64,12 @@ impl<'a> MemorySource<'a> {
 }
 
 impl Source for MemorySource<'_> {
-    ghost left = { left_of };
-
-    ghost counts = { reads_of };
+    ghost device = { source_of };
 
     fn fetch(&mut self, buffer: &mut [u8]) -> io::Result<usize>
         ensures within { IfOk result (λ n. n ≤ length buffer.new) }
-        ensures bytes { ReadConsumes (left_of self.old) (left_of self.new) result buffer.new }
-        ensures counted { CountsCall (reads_of self.old) (reads_of self.new) (length buffer.old)
+        ensures bytes { ReadConsumes (source_of self.old).bytes (source_of self.new).bytes result buffer.new }
+        ensures counted { CountsCall (source_of self.old).counts (source_of self.new).counts (length buffer.old)
             result }
         ensures gives { SourceGives self.old self.new (length buffer.old) result }
     {

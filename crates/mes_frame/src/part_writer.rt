@@ -16,14 +16,14 @@ pub(crate) fn write_part<W: Sink>(
     bytes: &[u8],
     sent: u64,
 ) -> Result<u64, WriteFault>
-    ensures ok { OnOk result (Appends (W.written writer.old) (W.written writer.new) bytes.now) }
-    ensures ok_counts { OnOk result (NoneFails (W.counts writer.old) (W.counts writer.new)) }
+    ensures ok { OnOk result (Appends (W.device writer.old).bytes (W.device writer.new).bytes bytes.now) }
+    ensures ok_counts { OnOk result (NoneFails (W.device writer.old).counts (W.device writer.new).counts) }
     ensures ok_sent { IfOk result (λ all. all ≡ up sent (length bytes.now)) }
-    ensures err { IfErr result (λ f. WrotePart (W.written writer.old) (W.written writer.new)
+    ensures err { IfErr result (λ f. WrotePart (W.device writer.old).bytes (W.device writer.new).bytes
         bytes.now sent f.sent) }
     ensures err_counts { IfErr result
-        (λ f. StopsWrite f.why (W.counts writer.old) (W.counts writer.new)) }
-    ensures calls { CallsFor (length bytes.now) (W.counts writer.old) (W.counts writer.new) }
+        (λ f. StopsWrite f.why (W.device writer.old).counts (W.device writer.new).counts) }
+    ensures calls { CallsFor (length bytes.now) (W.device writer.old).counts (W.device writer.new).counts }
 {
     match write_all(writer, bytes) {
         Ok(()) => Ok(sent.saturating_add(bytes.len() as u64)),

@@ -14,19 +14,19 @@ use crate::write::WriteFault;
 /// Does not allocate.
 pub fn write_record<W: Sink>(writer: &mut W, payload: &[u8]) -> Result<(), WriteFault>
     // On success: the whole record was written, and no call failed or wrote nothing.
-    ensures ok { OnOk result (Appends (W.written writer.old) (W.written writer.new)
+    ensures ok { OnOk result (Appends (W.device writer.old).bytes (W.device writer.new).bytes
         (record_bytes payload.now)) }
-    ensures ok_counts { OnOk result (NoneFails (W.counts writer.old) (W.counts writer.new)) }
+    ensures ok_counts { OnOk result (NoneFails (W.device writer.old).counts (W.device writer.new).counts) }
 
     // On error: exactly the first `sent` bytes were written, and one call failed as `why` says.
-    ensures err { IfErr result (λ f. WroteFront (W.written writer.old) (W.written writer.new)
+    ensures err { IfErr result (λ f. WroteFront (W.device writer.old).bytes (W.device writer.new).bytes
         (record_bytes payload.now) f.sent) }
     ensures err_counts { IfErr result
-        (λ f. StopsWrite f.why (W.counts writer.old) (W.counts writer.new)) }
+        (λ f. StopsWrite f.why (W.device writer.old).counts (W.device writer.new).counts) }
 
     // At least one call was made, and at most one for each byte.
-    ensures calls { CallsFor (length (record_bytes payload.now)) (W.counts writer.old)
-        (W.counts writer.new) }
+    ensures calls { CallsFor (length (record_bytes payload.now)) (W.device writer.old).counts
+        (W.device writer.new).counts }
 {
     let mut buffer = [0; MAX_RECORD_LINE];
     let line = record_line(payload.len() as u64, &mut buffer);

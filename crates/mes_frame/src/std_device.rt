@@ -1,7 +1,7 @@
 //! Adapters that make readers and writers of `std::io` devices.
 ghost use Rattle.std.specs.Prelude.{◌≡◌};
 ghost use Rattle.mes_frame.specs.Counts.{no_calls};
-ghost use Rattle.mes_frame.specs.StdDevice.{inner_of, counts_of};
+ghost use Rattle.mes_frame.specs.StdDevice.{inner_of, device_of};
 
 use crate::counts::Counts;
 use crate::device::{Sink, Source};
@@ -19,7 +19,7 @@ impl<T> FromStd<T> {
     /// Wraps `inner`, with all counts at 0.
     pub fn new(inner: T) -> Self
         ensures inner { inner_of result ≡ inner }
-        ensures counts { counts_of result ≡ no_calls }
+        ensures counts { result.counts ≡ no_calls }
     {
         FromStd {
             inner,
@@ -29,16 +29,14 @@ impl<T> FromStd<T> {
 
     /// Returns the counts of calls.
     pub fn counts(&self) -> Counts
-        ensures { result ≡ counts_of self.now }
+        ensures { result ≡ self.now.counts }
     {
         self.counts
     }
 }
 
 impl<T: Read> Source for FromStd<T> {
-    ghost left = { λ s. T.remaining (inner_of s) };
-
-    ghost counts = { λ s. counts_of s };
+    ghost device = { device_of T.remaining };
 
     fn fetch(&mut self, buffer: &mut [u8]) -> io::Result<usize> {
         let answer = self.inner.read(buffer);
@@ -48,9 +46,7 @@ impl<T: Read> Source for FromStd<T> {
 }
 
 impl<T: Write> Sink for FromStd<T> {
-    ghost written = { λ s. T.contents (inner_of s) };
-
-    ghost counts = { λ s. counts_of s };
+    ghost device = { device_of T.contents };
 
     fn put(&mut self, bytes: &[u8]) -> io::Result<usize> {
         let answer = self.inner.write(bytes);

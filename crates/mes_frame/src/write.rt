@@ -24,17 +24,17 @@ pub struct WriteFault {
 /// Writes all of `bytes`, in as many calls as needed.
 pub fn write_all<W: Sink>(writer: &mut W, bytes: &[u8]) -> Result<(), WriteFault>
     // On success: all bytes were written, and no call failed or wrote nothing.
-    ensures ok { OnOk result (Appends (W.written writer.old) (W.written writer.new) bytes.now) }
-    ensures ok_counts { OnOk result (NoneFails (W.counts writer.old) (W.counts writer.new)) }
+    ensures ok { OnOk result (Appends (W.device writer.old).bytes (W.device writer.new).bytes bytes.now) }
+    ensures ok_counts { OnOk result (NoneFails (W.device writer.old).counts (W.device writer.new).counts) }
 
     // On error: exactly the first `sent` bytes were written, and one call failed as `why` says.
     ensures err { IfErr result (λ f. (f.sent < length bytes.now)
-        × Appends (W.written writer.old) (W.written writer.new) (take f.sent bytes.now)) }
+        × Appends (W.device writer.old).bytes (W.device writer.new).bytes (take f.sent bytes.now)) }
     ensures err_counts { IfErr result
-        (λ f. StopsWrite f.why (W.counts writer.old) (W.counts writer.new)) }
+        (λ f. StopsWrite f.why (W.device writer.old).counts (W.device writer.new).counts) }
 
     // At most one call was made for each byte, and at least one unless `bytes` is empty.
-    ensures calls { CallsFor (length bytes.now) (W.counts writer.old) (W.counts writer.new) }
+    ensures calls { CallsFor (length bytes.now) (W.device writer.old).counts (W.device writer.new).counts }
 {
     let mut sent = 0;
     while sent < bytes.len() {

@@ -4,7 +4,7 @@ use Rattle.std.specs.List.{flat_map}
 use Rattle.mes_json.specs.Tree.{depth}
 use Rattle.mes_json.specs.declared.limits.TheConstants.{MAX_NESTING}
 use Rattle.mes_frame.specs.Frames.{record_bytes}
-use Rattle.mes_frame.specs.declared.counts.Counts.{Counts}
+use Rattle.mes_frame.specs.Devices.{Device}
 use Rattle.mes_model_schema.specs.Kinds.{Kind}
 use Rattle.mes_msg.specs.Events.{event}
 use Rattle.mes_msg.specs.Calls.{call}
@@ -82,7 +82,7 @@ IsUnwritten limit entries NoMemory = Unit {0}
 IsUnwritten limit entries (Write fault) = ⊥
 
 -- the reason for which writing ended: an entry does not fit, out of memory, or the writer stopped
-abbrev pub StopsLog : {W : Type 0} → (W → Option (List ℕ)) → (W → Counts) → ℕ → List Entry → W → W → SendFault → Type 0
-StopsLog written counts limit entries old new (Encode index why) = IsFirstUnfit limit entries index why × (new ≡ old)
-StopsLog written counts limit entries old new NoMemory = new ≡ old
-StopsLog written counts limit entries old new (Write fault) = (w : List ℕ) × IsLogOf limit entries w × WroteSome written counts old new w fault
+abbrev pub StopsLog : {W : Type 0} → (W → Device) → ℕ → List Entry → W → W → SendFault → Type 0
+StopsLog device limit entries old new (Encode index why) = IsFirstUnfit limit entries index why × (new ≡ old)
+StopsLog device limit entries old new NoMemory = new ≡ old
+StopsLog device limit entries old new (Write fault) = (w : List ℕ) × IsLogOf limit entries w × WroteSome device old new w fault

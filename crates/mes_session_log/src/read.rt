@@ -33,9 +33,9 @@ pub fn read_log<S: Source>(
     // The bytes `w` were consumed and the entries `more` appended; `EndsLog` states the result for
     // `w` and `more`.
     ensures { (w : List ℕ) × (more : List EntryValue)
-        × Consumes (S.left reader.old) (S.left reader.new) w
+        × Consumes (S.device reader.old).bytes (S.device reader.new).bytes w
         × (entries.new.items ≡ entries.old.items ++ more)
-        × EndsLog limit max_reads (S.counts reader.old) (S.counts reader.new) (S.left reader.new) w
+        × EndsLog limit max_reads (S.device reader.old).counts (S.device reader.new).counts (S.device reader.new).bytes w
         more result }
 {
     let mut reading = LogReading::new(alloc, limit);

@@ -19,11 +19,11 @@ pub fn write_log<W: Sink>(
 ) -> Result<(), SendFault>
     // On success: each entry fits the limit, and the whole log is written.
     ensures ok { OnOk result ((w : List ℕ) × IsLogOf limit entries.now w
-        × WroteAll W.written W.counts writer.old writer.new w) }
+        × WroteAll W.device writer.old writer.new w) }
 
     // Each error: the first entry that does not fit, or out of memory, and the writer was not
     // called; or the writer stopped after the first `sent` bytes.
-    ensures err { IfErr result (StopsLog W.written W.counts limit entries.now writer.old
+    ensures err { IfErr result (StopsLog W.device limit entries.now writer.old
         writer.new) }
 {
     let log = encode_log(alloc, entries, limit)?;

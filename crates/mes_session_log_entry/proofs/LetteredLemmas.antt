@@ -20,9 +20,13 @@ use Rattle.mes_stream.proofs.EventLemmas.{exact_fault}
 use Rattle.mes_stream.specs.Refusals.{refusal_of}
 use Rattle.mes_stream.specs.declared.record_error.RecordError.{RecordError}
 use Rattle.mes_stream.specs.declared.record_error.RecordError.TheVariants as refusal
-use Rattle.mes_session_log_entry.specs.Entries.{AfterLetter, BeginsMessage}
+use Rattle.mes_session_log_entry.specs.Entries.{AfterLetter, BeginsMessage, IsWholeEntry, IsWholeFirst, SpellsEntry, SpellsFirst}
 use Rattle.mes_session_log_entry.specs.Lettered.{HasText, HoldsAt, LetteredBreaks, IsTextRefusal}
 use Rattle.mes_session_log_entry.specs.declared.record_letters.TheConstants.{EVENT, CALL}
+use Rattle.mes_msg.specs.declared.entry.Entry.{Entry}
+use Rattle.mes_msg.specs.declared.entry.Entry.TheVariants.{Heard, Said, Broken}
+use Rattle.mes_session_log_entry.specs.declared.first_reader.FirstRecord.{FirstRecord}
+use Rattle.mes_session_log_entry.specs.declared.first_reader.FirstRecord.TheVariants as first
 use Rattle.mes_session_log_entry.specs.declared.lettered_text.Place.{Place}
 use Rattle.mes_session_log_entry.specs.declared.lettered_text.Place.TheVariants as place
 
@@ -57,23 +61,23 @@ pub lexed_refused : {V : Type 0} (k : Kind V) (text : List ℕ) (e : ReadFault) 
 lexed_refused k text (read.Text f) short h begins = exact_fault MAX_NESTING text f short h
 lexed_refused k text read.NoMemory short h begins = begins refl
 
--- if an allocation failed at a byte of the text, the data before that byte begin like an event or a
--- call
+-- if an allocation failed at a byte of the text, the data as far as that byte begin like an event or
+-- a call
 abbrev pub StopsText : {T : Type 0} → Lexer → List ℕ → Result T NoMemoryAt → Type 0
 StopsText lexer bytes result =
-    (text : List ℕ) → HasLexed lexer text → (IsOutOfMemory lexer → ⊥) → IfErr result (λ refused. Begins MAX_NESTING (text ++ take refused.taken bytes))
+    (text : List ℕ) → HasLexed lexer text → (IsOutOfMemory lexer → ⊥) → IfErr result (λ refused. Begins MAX_NESTING (text ++ take (refused.taken + 1) bytes))
 
-pub event_before : {T : Type 0} (lexer : Lexer) (r bytes : List ℕ) (result : Result T NoMemoryAt) → StopsText lexer bytes result → AfterLetter EVENT (HasText lexer) r
-    → IfErr result (λ refused. BeginsMessage (r ++ take refused.taken bytes))
-event_before lexer r bytes (Ok done) before h = tt
-event_before lexer r bytes (Err refused) before (text, is, has) =
-    inl (text ++ take refused.taken bytes, ap (λ (x : List ℕ). x ++ take refused.taken bytes) is, before text has.lexed has.memory)
+pub event_begins : {T : Type 0} (lexer : Lexer) (r bytes : List ℕ) (result : Result T NoMemoryAt) → StopsText lexer bytes result → AfterLetter EVENT (HasText lexer) r
+    → IfErr result (λ refused. BeginsMessage (r ++ take (refused.taken + 1) bytes))
+event_begins lexer r bytes (Ok done) before h = tt
+event_begins lexer r bytes (Err refused) before (text, is, has) =
+    inl (text ++ take (refused.taken + 1) bytes, ap (λ (x : List ℕ). x ++ take (refused.taken + 1) bytes) is, before text has.lexed has.memory)
 
-pub call_before : {T : Type 0} (lexer : Lexer) (r bytes : List ℕ) (result : Result T NoMemoryAt) → StopsText lexer bytes result → AfterLetter CALL (HasText lexer) r
-    → IfErr result (λ refused. BeginsMessage (r ++ take refused.taken bytes))
-call_before lexer r bytes (Ok done) before h = tt
-call_before lexer r bytes (Err refused) before (text, is, has) =
-    inr (text ++ take refused.taken bytes, ap (λ (x : List ℕ). x ++ take refused.taken bytes) is, before text has.lexed has.memory)
+pub call_begins : {T : Type 0} (lexer : Lexer) (r bytes : List ℕ) (result : Result T NoMemoryAt) → StopsText lexer bytes result → AfterLetter CALL (HasText lexer) r
+    → IfErr result (λ refused. BeginsMessage (r ++ take (refused.taken + 1) bytes))
+call_begins lexer r bytes (Ok done) before h = tt
+call_begins lexer r bytes (Err refused) before (text, is, has) =
+    inr (text ++ take (refused.taken + 1) bytes, ap (λ (x : List ℕ). x ++ take (refused.taken + 1) bytes) is, before text has.lexed has.memory)
 
 pub some_held : (p : Place) (lexer : Lexer) (r : List ℕ) → p ≢ place.Start → HoldsAt p lexer r → r ≢ []
 some_held place.Start lexer r other h none = absurd (other refl)
@@ -99,3 +103,15 @@ kept_most lexer place.Event r bound (text, is, has) = let most = (bound text has
 kept_most lexer place.Call r bound (text, is, has) = let most = (bound text has.lexed).texts in rw is (omega (arith, most))
 kept_most lexer (place.Alone letter) r bound h = let most = (bound [] h.2.lexed).texts in omega (arith, most)
 kept_most lexer place.More r bound h = let most = (bound [] h.5.lexed).texts in omega (arith, most)
+
+-- data with a value are whole
+pub entry_whole : (version : ℕ) (r : List ℕ) (entry : Entry) → SpellsEntry version r entry → IsWholeEntry version r
+entry_whole version r (Heard heard) (text, is, (t, spelt, reads)) = inl (inl (text, is, (t, spelt)))
+entry_whole version r (Said said) (text, is, (t, spelt, reads)) = inl (inr (text, is, (t, spelt)))
+entry_whole version r Broken is = inr is
+
+pub first_whole : (r : List ℕ) (value : FirstRecord) → SpellsFirst r value → IsWholeFirst r
+first_whole r first.Header is = inr is
+first_whole r (first.Entry (Heard heard)) (text, is, (t, spelt, reads)) = inl (inl (text, is, (t, spelt)))
+first_whole r (first.Entry (Said said)) (text, is, (t, spelt, reads)) = inl (inr (text, is, (t, spelt)))
+first_whole r (first.Entry Broken) is = let one : 1 ≡ 2 = is.0 in absurd (omega (arith, one))

@@ -10,6 +10,7 @@ use Rattle.mes_msg.specs.RecordFault.{RecordFault}
 use Rattle.mes_msg.specs.RecordFault.TheVariants as message
 use Rattle.mes_msg.specs.declared.entry.Entry.{Entry}
 use Rattle.mes_msg.specs.declared.entry.Entry.TheVariants.{Heard, Said, Broken}
+use Rattle.mes_stream.specs.Refusals.{IsJson}
 use Rattle.mes_stream.specs.declared.record_error.RecordError.{RecordError}
 use Rattle.mes_stream.specs.declared.record_error.RecordError.TheVariants as refusal
 use Rattle.mes_session_log_entry.specs.declared.first_reader.FirstRecord.{FirstRecord}
@@ -51,7 +52,16 @@ IsMessageFault r fault = AfterLetter EVENT (λ text. IsFaultOf event text fault)
 abbrev pub BeginsMessage : List ℕ → Type 0
 BeginsMessage r = AfterLetter EVENT (λ text. Begins MAX_NESTING text) r ⊎ AfterLetter CALL (λ text. Begins MAX_NESTING text) r
 
--- the data r have this fault; an allocation fails only if they begin like an event or a call
+-- the data are the letter of an event or a call, and then a JSON text
+abbrev pub IsWholeMessage : List ℕ → Type 0
+IsWholeMessage r = AfterLetter EVENT IsJson r ⊎ AfterLetter CALL IsJson r
+
+-- the data are a whole event or call, or a disconnect
+abbrev pub IsWholeEntry : ℕ → List ℕ → Type 0
+IsWholeEntry version r = IsWholeMessage r ⊎ IsBreak version r
+
+-- the data r have this fault; an allocation fails only at a byte with which an event or a call goes
+-- on
 abbrev pub EntryBreaks : ℕ → List ℕ → RecordError → Type 0
 EntryBreaks version r (refusal.Text fault) = IsMessageFault r (message.Text fault)
 EntryBreaks version r (refusal.Field fault) = IsMessageFault r (message.Field fault)
@@ -71,6 +81,10 @@ FirstBreaks r (refusal.Text fault) = EntryBreaks 1 r (refusal.Text fault)
 FirstBreaks r (refusal.Field fault) = EntryBreaks 1 r (refusal.Field fault)
 FirstBreaks r refusal.BadEntry = IsBadEntry 1 r × (r ≢ HEADER ∷ [])
 FirstBreaks r refusal.NoMemory = BeginsMessage r
+
+-- the data are a whole event or call, or the header
+abbrev pub IsWholeFirst : List ℕ → Type 0
+IsWholeFirst r = IsWholeMessage r ⊎ (r ≡ HEADER ∷ [])
 
 -- the version of the log with this first record
 abbrev pub version_of : FirstRecord → ℕ

@@ -18,6 +18,8 @@ use Rattle.mes_session_log_entry.specs.declared.record_letters.TheConstants.{EVE
 use Rattle.mes_session_log_entry.specs.declared.lettered_text.Lettered.{Lettered}
 use Rattle.mes_session_log_entry.specs.declared.lettered_text.Lettered.TheVariants as lettered
 use Rattle.mes_session_log_entry.specs.declared.lettered_text.LetteredReader.{LetteredReader}
+use Rattle.mes_session_log_entry.specs.declared.entry_reader.EntryReader.{EntryReader}
+use Rattle.mes_session_log_entry.specs.declared.first_reader.FirstReader.{FirstReader}
 use Rattle.mes_session_log_entry.specs.declared.lettered_text.Place.{Place}
 use Rattle.mes_session_log_entry.specs.declared.lettered_text.Place.TheVariants as place
 
@@ -43,6 +45,12 @@ HoldsLettered reader r = HoldsAt reader.place reader.lexer r
 abbrev pub kept_text : LetteredReader → ℕ
 kept_text reader = let record { alloc = alloc; place = now; lexer = lexer } = reader in fixed alloc + fixed now + held lexer
 
+abbrev pub kept_entry : {VERSION : ℕ} → EntryReader VERSION → ℕ
+kept_entry reader = let record { lettered = lettered } = reader in kept_text lettered
+
+abbrev pub kept_first : FirstReader → ℕ
+kept_first reader = let record { lettered = lettered } = reader in kept_text lettered
+
 -- the data r have this value
 abbrev pub SpellsLettered : List ℕ → Lettered → Type 0
 SpellsLettered r (lettered.Event heard) = AfterLetter EVENT (λ text. Spells text heard) r
@@ -53,14 +61,15 @@ SpellsLettered r (lettered.Alone letter) = (r ≡ letter ∷ []) × IsOther lett
 abbrev pub IsBadData : List ℕ → Type 0
 IsBadData r = (r ≡ []) ⊎ ((letter : ℕ) × (next : ℕ) × (more : List ℕ) × (r ≡ letter ∷ next ∷ more) × IsOther letter)
 
--- the data r have this fault; an allocation fails only if they begin like an event or a call
+-- the data r have this fault; an allocation fails only at a byte with which an event or a call goes
+-- on
 abbrev pub LetteredBreaks : List ℕ → RecordError → Type 0
 LetteredBreaks r (refusal.Text fault) = IsMessageFault r (message.Text fault)
 LetteredBreaks r (refusal.Field fault) = IsMessageFault r (message.Field fault)
 LetteredBreaks r refusal.BadEntry = IsBadData r
 LetteredBreaks r refusal.NoMemory = BeginsMessage r
 
--- the text has this fault; an allocation fails only if the bytes begin some JSON text
+-- the text has this fault; an allocation fails only at a byte with which some JSON text goes on
 abbrev pub IsTextRefusal : {V : Type 0} → Kind V → List ℕ → RecordError → Type 0
 IsTextRefusal k text (refusal.Text fault) = IsFaultOf k text (message.Text fault)
 IsTextRefusal k text (refusal.Field fault) = IsFaultOf k text (message.Field fault)

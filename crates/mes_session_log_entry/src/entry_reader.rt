@@ -2,8 +2,8 @@
 
 ghost use Rattle.std.specs.Prelude.{◌≡◌, ◌≢◌, ℕ, ◌^◌, ◌<◌, ◌≤◌, List, [], ◌++◌, length, OnOk, IfOk, IfErr};
 ghost use Rattle.mes_json.specs.Inner.{inner};
-ghost use Rattle.mes_session_log_entry.specs.Entries.{EntryBreaks, SpellsEntry};
-ghost use Rattle.mes_session_log_entry.specs.Lettered.{HoldsLettered, kept_text};
+ghost use Rattle.mes_session_log_entry.specs.Entries.{EntryBreaks, IsWholeEntry, SpellsEntry};
+ghost use Rattle.mes_session_log_entry.specs.Lettered.{HoldsLettered, kept_entry};
 
 use crate::lettered_text::{Lettered, LetteredReader};
 use crate::record_letters::BROKEN;
@@ -38,7 +38,9 @@ impl<const VERSION: u8> RecordReader for EntryReader<VERSION> {
 
     ghost breaks = { EntryBreaks VERSION };
 
-    ghost kept = { λ reader. kept_text reader.lettered };
+    ghost whole = { IsWholeEntry VERSION };
+
+    ghost kept = { kept_entry };
 
     ghost max_held = { inner };
 

@@ -2,8 +2,8 @@
 
 ghost use Rattle.std.specs.Prelude.{◌≡◌, ◌≢◌, ℕ, ◌^◌, ◌<◌, ◌≤◌, List, [], ◌++◌, length, OnOk, IfOk, IfErr};
 ghost use Rattle.mes_json.specs.Inner.{inner};
-ghost use Rattle.mes_session_log_entry.specs.Entries.{FirstBreaks, SpellsFirst};
-ghost use Rattle.mes_session_log_entry.specs.Lettered.{HoldsLettered, kept_text};
+ghost use Rattle.mes_session_log_entry.specs.Entries.{FirstBreaks, IsWholeFirst, SpellsFirst};
+ghost use Rattle.mes_session_log_entry.specs.Lettered.{HoldsLettered, kept_first};
 
 use crate::lettered_text::{Lettered, LetteredReader};
 use crate::record_letters::HEADER;
@@ -47,7 +47,9 @@ impl RecordReader for FirstReader {
 
     ghost breaks = { FirstBreaks };
 
-    ghost kept = { λ reader. kept_text reader.lettered };
+    ghost whole = { IsWholeFirst };
+
+    ghost kept = { kept_first };
 
     ghost max_held = { inner };
 

@@ -1,10 +1,11 @@
 //! Incremental reading of a record's data: a letter and, after some letters, the JSON text of a
 //! message.
 
-ghost use Rattle.std.specs.Prelude.{◌≡◌, ◌≢◌, ℕ, ◌^◌, ◌<◌, ◌≤◌, List, [], ◌∷◌, ◌++◌, length, take, IsTrue, ◌↔◌, OnOk, IfOk, IfErr};
+ghost use Rattle.std.specs.Prelude.{◌≡◌, ◌≢◌, ℕ, ◌+◌, ◌^◌, ◌<◌, ◌≤◌, List, [], ◌∷◌, ◌++◌, length, take, IsTrue, ◌↔◌, OnOk, IfOk, IfErr};
 ghost use Rattle.mes_json.specs.Inner.{inner};
 ghost use Rattle.mes_msg.specs.Texts.{IsTextOf};
-ghost use Rattle.mes_session_log_entry.specs.Entries.{BeginsMessage};
+ghost use Rattle.mes_session_log_entry.specs.Entries.{BeginsMessage, IsWholeMessage};
+ghost use Rattle.mes_stream.specs.Refusals.{IsJson};
 ghost use Rattle.mes_session_log_entry.specs.Lettered.{HasText, HoldsLettered, LetteredBreaks, HoldsAt, IsTextRefusal, SpellsLettered, kept_text};
 ghost use Rattle.mes_json.specs.declared.lexer.Lexer.{Lexer as LexerValue};
 
@@ -68,9 +69,9 @@ impl LetteredReader {
         // Each error: an allocation failed at byte `taken` of `bytes`.
         ensures err { IfErr result (λ refused. 0 < length bytes.now
             → refused.taken < length bytes.now) }
-        // The data before that byte begin like an event or a call.
-        ensures before { (r : List ℕ) → HoldsLettered self.old r
-            → IfErr result (λ refused. BeginsMessage (r ++ take refused.taken bytes.now)) }
+        // The data as far as that byte begin like an event or a call.
+        ensures begins { (r : List ℕ) → HoldsLettered self.old r
+            → IfErr result (λ refused. BeginsMessage (r ++ take (refused.taken + 1) bytes.now)) }
     {
         if !self.is_at_start() {
             return self.push_after(bytes);
@@ -109,8 +110,8 @@ impl LetteredReader {
             → HoldsLettered self.new (r ++ bytes.now)) }
         ensures err { IfErr result (λ refused. 0 < length bytes.now
             → refused.taken < length bytes.now) }
-        ensures before { (r : List ℕ) → r ≢ [] → HoldsLettered self.old r
-            → IfErr result (λ refused. BeginsMessage (r ++ take refused.taken bytes.now)) }
+        ensures begins { (r : List ℕ) → r ≢ [] → HoldsLettered self.old r
+            → IfErr result (λ refused. BeginsMessage (r ++ take (refused.taken + 1) bytes.now)) }
     {
         match self.place {
             Place::Event => self.lexer.push_run(bytes),
@@ -132,6 +133,9 @@ impl LetteredReader {
             → IfOk result (SpellsLettered r) }
         ensures err { (r : List ℕ) → HoldsLettered self.old r → length r < 2 ^ 64
             → IfErr result (LetteredBreaks r) }
+        // Data that are not a whole event or call have an error of their own.
+        ensures memory { (r : List ℕ) → HoldsLettered self.old r → (IsWholeMessage r → ⊥)
+            → IfErr result (λ why. why ≢ RecordError.NoMemory) }
         // On success: the reader is ready for the next record.
         ensures next { OnOk result (HoldsLettered self.new []) }
     {
@@ -155,10 +159,12 @@ impl LetteredReader {
         }
     }
 
-    /// Frees the text that the lexer buffers.
+    /// Frees the text that the lexer buffers. The reader is as at the beginning of a record.
     pub(crate) fn release(&mut self)
-        ensures { kept_text self.new ≡ 0 }
+        ensures kept { kept_text self.new ≡ 0 }
+        ensures holds { HoldsLettered self.new [] }
     {
+        self.place = Place::Start;
         self.lexer = Lexer::new(self.alloc);
         lexer_bound(&self.lexer);
     }
@@ -193,6 +199,8 @@ fn end_text<T: Part>(alloc: Global, lexer: &mut Lexer) -> Result<T, RecordError>
         → IfOk result (IsTextOf T.kind text) }
     ensures err { (text : List ℕ) → HasText lexer.old text → length text < 2 ^ 64
         → IfErr result (IsTextRefusal T.kind text) }
+    ensures memory { (text : List ℕ) → HasText lexer.old text → (IsJson text → ⊥)
+        → IfErr result (λ why. why ≢ RecordError.NoMemory) }
     ensures next { OnOk result (HasText lexer.new []) }
 {
     let tape = lexer.take()?;

@@ -45,6 +45,10 @@ last_begun limit x r c is some =
       d.2 ∙ ap (λ (y : ℕ). d.0 ++ y ∷ []) (sym ends.1),
     )
 
+-- the data r, n bytes of a run, and the next byte of the run
+pub one_more : (r run : List ℕ) (n : ℕ) → n < length run → r ++ take (n + 1) run ≡ (r ++ take n run) ++ slice_index run n ∷ []
+one_more r run n inside = ap (λ (y : List ℕ). r ++ y) (take_more run n 0 inside) ∙ sym (append_assoc r (take n run) (slice_index run n ∷ []))
+
 -- an allocation failed for the data of a record that ends with the byte c
 pub ends_runs_out : {E : Type 0} (spells : List ℕ → E → Type 0) (breaks : List ℕ → RecordError → Type 0) (limit : ℕ) (b : List ℕ) (values : List E) (c : ℕ)
     → EndsRecord spells limit b values c (λ r. (r ≢ []) × breaks r refusal.NoMemory) → RunsOut spells breaks limit b values c
@@ -55,7 +59,7 @@ ends_runs_out spells breaks limit b values c h =
       x = h.x;
       spelt = h.spelt;
       records = h.records;
-      is = (last.0, 1, last.1, inr (refl, subst (λ (y : List ℕ). breaks y refusal.NoMemory) last.2 h.is.2.1));
+      is = (last.0, 1, last.1, subst (λ (y : List ℕ). breaks y refusal.NoMemory) last.2 h.is.2.1);
     }
 
 some_run : (r run : List ℕ) (count : ℕ) → 0 < count → count ≤ length run → r ++ take count run ≢ []
@@ -151,10 +155,10 @@ module _ {R E : Type 0} (holds : R → List ℕ → Type 0) (spells : List ℕ �
   data_live d b run values n left s inside within begun =
       behind_on d b (take n run) values s (λ x. (r : List ℕ) × Begun x r (limit_of d.records)) (s.r ++ take n run, inr (left - n, data_on d b run values n left s inside within begun))
 
-  pub data_next : (d : Body R) (b run : List ℕ) (values : List E) (n left : ℕ) (s : BodyRepresents holds spells ahead d b values) (Is : List ℕ → ℕ → Type 0) → n < left → n ≤ length run
-      → DataBegun s.x s.r left (limit_of d.records) → Is (s.r ++ take n run) (left - n) → InRecordData spells (limit_of d.records) (b ++ take n run) values Is
+  pub data_next : (d : Body R) (b run : List ℕ) (values : List E) (n left : ℕ) (s : BodyRepresents holds spells ahead d b values) (Is : List ℕ → Type 0) → n < left → n ≤ length run
+      → DataBegun s.x s.r left (limit_of d.records) → Is (s.r ++ take n run) → InRecordData spells (limit_of d.records) (b ++ take n run) values Is
   data_next d b run values n left s Is inside within begun is =
-      behind_on d b (take n run) values s (λ x. (r : List ℕ) × (left : ℕ) × DataBegun x r left (limit_of d.records) × Is r left)
+      behind_on d b (take n run) values s (λ x. (r : List ℕ) × (left : ℕ) × DataBegun x r left (limit_of d.records) × Is r)
       (s.r ++ take n run, left - n, data_on d b run values n left s inside within begun, is)
 
   -- the record ends with the last of the first `count` bytes of a run

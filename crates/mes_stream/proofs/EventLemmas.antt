@@ -58,6 +58,11 @@ pub text_refused : (r : List ℕ) (e : ReadFault) → length r < 2 ^ 64 → IsLe
 text_refused r (read.Text f) short h begins = exact_fault MAX_NESTING r f short h
 text_refused r read.NoMemory short h begins = begins refl
 
+-- an error in the text is no failed allocation
+pub known_read : (e : ReadFault) → e ≢ read.NoMemory → refusal_of (of_read e) ≢ refusal.NoMemory
+known_read (read.Text f) not none = absurd (cc)
+known_read read.NoMemory not none = absurd (not refl)
+
 -- `IsEventRefusal` also permits that the list could not grow: data of an event begin a JSON text
 pub refused_of : (r : List ℕ) (why : RecordError) → IsRefused Spells IsEventRefusal r why → IsEventRefusal r why
 refused_of r why (inl h) = h

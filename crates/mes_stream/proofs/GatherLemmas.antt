@@ -12,14 +12,14 @@ use Rattle.mes_frame.specs.declared.chunk.ChunkState.{ChunkState}
 use Rattle.mes_frame.specs.declared.record.RecordState.{RecordState}
 use Rattle.mes_stream.specs.Chunked.{ChunkedStops}
 use Rattle.mes_stream.specs.Decoding.{ChunkedRepresents, IsDataAt, Gathers, LiveBefore}
-use Rattle.mes_stream.specs.Stream.{BodyLive, InRecordData, MayFail}
+use Rattle.mes_stream.specs.Stream.{BodyLive, InRecordData}
 use Rattle.mes_stream.specs.Taking.{BodyRepresents}
 use Rattle.mes_stream.specs.declared.record_body.Body.{Body}
 use Rattle.mes_stream.specs.declared.chunked_body.ChunkedBody.{ChunkedBody}
 use Rattle.mes_stream.specs.declared.fault.Fault.TheVariants.{NoMemory}
 use Rattle.mes_stream.specs.declared.record_error.RecordError.{RecordError}
 use Rattle.mes_stream.specs.declared.record_error.RecordError.TheVariants as refusal
-use Rattle.mes_stream.proofs.BodyLemmas.{live_of, stands_on, data_live, data_next, piece_on}
+use Rattle.mes_stream.proofs.BodyLemmas.{live_of, stands_on, one_more, data_live, data_next, piece_on}
 use Rattle.mes_stream.proofs.ChunkLemmas.{take_whole}
 
 pub gathers_none : (s : ChunkState) (w body piece : List ℕ) → ChunkRepresents s w body → Gathers s w body piece 0 [] []
@@ -31,6 +31,7 @@ gathers_none s w body piece represents =
           let zero : 0 ≡ n = omega (arith, none) in
           ([], omega arith, subst (λ (m : ℕ). IsOpen (w ++ take m piece) (body ++ [])) zero (open_of s (w ++ []) (body ++ []) same));
       each = λ k none. absurd (omega (arith, none));
+      same = λ k none. absurd (omega (arith, none));
     }
 
 pub gathers_framing : (old new : ChunkState) (w body piece run places : List ℕ) (used count : ℕ) → Gathers old w body piece used run places
@@ -45,12 +46,13 @@ gathers_framing old new w body piece run places used count before (represents, o
             (run, omega arith, subst (λ (y : List ℕ). IsOpen y (body ++ run)) (piece_on w piece used (n - used) ∙ ap (λ (m : ℕ). w ++ take m piece) sum) (opens (n - used) (omega (arith, within, late))))
       ];
   each = before.each;
+  same = before.same;
 }
 
 pub gathers_byte : (old new : ChunkState) (w body piece run places : List ℕ) (used : ℕ) → Gathers old w body piece used run places → used < length piece → length places ≡ length run
     → ChunkRepresents new ((w ++ take used piece) ++ slice_index piece used ∷ []) ((body ++ run) ++ slice_index piece used ∷ [])
     → Gathers new w body piece (used + 1) (run ++ slice_index piece used ∷ []) (places ++ used ∷ [])
-gathers_byte old new w body piece run places used before inside same represents =
+gathers_byte old new w body piece run places used before inside lengths represents =
     let b : ℕ = slice_index piece used in
     let len = length-append run (b ∷ []) in
     let whole : (w ++ take used piece) ++ b ∷ [] ≡ w ++ take (used + 1) piece =
@@ -72,12 +74,12 @@ gathers_byte old new w body piece run places used before inside same represents 
       each = λ k within.
           elim (cases_lt k (length run)) [
             | inl early ↦
-                let phase : get_or places k 0 ≡ get_or (places ++ used ∷ []) k 0 = sym (get_or_append_left places (used ∷ []) 0 k (omega (arith, early, same))) in
+                let phase : get_or places k 0 ≡ get_or (places ++ used ∷ []) k 0 = sym (get_or_append_left places (used ∷ []) 0 k (omega (arith, early, lengths))) in
                 let front : take k run ≡ take k (run ++ b ∷ []) = sym (take-append-le k run (b ∷ []) (omega (arith, early))) in
                 subst (λ (p : List ℕ). IsDataAt w body piece p (get_or (places ++ used ∷ []) k 0)) front (subst (λ (at : ℕ). IsDataAt w body piece (take k run) at) phase (before.each k early))
             | inr late ↦
                 let last : length run ≡ k = omega (arith, within, late, len) in
-                let phase : used ≡ get_or (places ++ used ∷ []) k 0 = sym (get_or_push places used 0 k (omega (arith, last, same))) in
+                let phase : used ≡ get_or (places ++ used ∷ []) k 0 = sym (get_or_push places used 0 k (omega (arith, last, lengths))) in
                 let all : run ≡ take k (run ++ b ∷ []) =
                 sym (take_whole run (length run) refl) ∙ sym (take-append-le (length run) run (b ∷ []) (omega arith)) ∙ ap (λ (n : ℕ). take n (run ++ b ∷ [])) last in
                 let at : IsDataAt w body piece run used = record {
@@ -85,6 +87,16 @@ gathers_byte old new w body piece run places used before inside same represents 
                   next = open_of new ((w ++ take used piece) ++ b ∷ []) ((body ++ run) ++ b ∷ []) represents;
                 } in
                 subst (λ (y : List ℕ). IsDataAt w body piece y (get_or (places ++ used ∷ []) k 0)) all (subst (λ (p : ℕ). IsDataAt w body piece run p) phase at)
+          ];
+      same = λ k within.
+          elim (cases_lt k (length run)) [
+            | inl early ↦
+                let phase : get_or (places ++ used ∷ []) k 0 ≡ get_or places k 0 = get_or_append_left places (used ∷ []) 0 k (omega (arith, early, lengths)) in
+                ap (slice_index piece) phase ∙ before.same k early ∙ sym (get_or_append_left run (b ∷ []) 0 k early)
+            | inr late ↦
+                let last : length run ≡ k = omega (arith, within, late, len) in
+                let phase : get_or (places ++ used ∷ []) k 0 ≡ used = get_or_push places used 0 k (omega (arith, last, lengths)) in
+                ap (slice_index piece) phase ∙ sym (get_or_push run b 0 k (omega (arith, last)))
           ];
     }
 
@@ -178,13 +190,13 @@ module _ {R E : Type 0} (holds : R → List ℕ → Type 0) (spells : List ℕ �
       subst (λ (y : List ℕ). BodyLive spells (limit_of d.records) (b ++ y) values) (take_whole p (length p) refl)
       (data_live holds spells ahead d b p values (length p) (remaining_of d.records) s inside (omega arith) (begun_room d.records s.x s.r s.state (omega (arith, inside))))
 
-  pub room_next : (d : Body R) (b p : List ℕ) (values : List E) (s : BodyRepresents holds spells ahead d b values) (Is : List ℕ → ℕ → Type 0) → length p < remaining_of d.records → Is (s.r ++ p) (remaining_of d.records - length p)
+  pub room_next : (d : Body R) (b p : List ℕ) (values : List E) (s : BodyRepresents holds spells ahead d b values) (Is : List ℕ → Type 0) → length p < remaining_of d.records → Is (s.r ++ p)
       → InRecordData spells (limit_of d.records) (b ++ p) values Is
   room_next d b p values s Is inside is =
       let whole = take_whole p (length p) refl in
       subst (λ (y : List ℕ). InRecordData spells (limit_of d.records) (b ++ y) values Is) whole
       (data_next holds spells ahead d b p values (length p) (remaining_of d.records) s Is inside (omega arith) (begun_room d.records s.x s.r s.state (omega (arith, inside)))
-      (subst (λ (y : List ℕ). Is (s.r ++ y) (remaining_of d.records - length p)) (sym whole) is))
+      (subst (λ (y : List ℕ). Is (s.r ++ y)) (sym whole) is))
 
   none_live : (d : Body R) (b p : List ℕ) (values : List E) → BodyRepresents holds spells ahead d b values → length p ≤ 0 → BodyLive spells (limit_of d.records) (b ++ p) values
   none_live d b [] values s none = rw (append-nil b) (live_of holds spells ahead d b values s)
@@ -211,9 +223,14 @@ module _ {R E : Type 0} (holds : R → List ℕ → Type 0) (spells : List ℕ �
 
   -- an allocation failed at a byte of the data of the short chunks
   pub gathered_stops : (d : ChunkedBody R) (breaks : List ℕ → RecordError → Type 0) (new : ChunkState) (w rest run places : List ℕ) (values : List E) (used k at : ℕ) (s : ChunkedRepresents holds spells ahead d w values)
-      → Gathers new w s.content rest used run places → k < length run → length run < remaining_of d.body.records → slice_index places k ≡ at → breaks (s.body.r ++ take k run) refusal.NoMemory
+      → Gathers new w s.content rest used run places → k < length run → length run < remaining_of d.body.records → slice_index places k ≡ at → breaks (s.body.r ++ take (k + 1) run) refusal.NoMemory
       → ChunkedStops spells breaks ahead (limit_of d.body.records) (w ++ take at rest) values (slice_index rest at) NoMemory
   gathered_stops d breaks new w rest run places values used k at s gathered inside few same starved =
       let byte : IsDataAt w s.content rest (take k run) at = subst (λ (p : ℕ). IsDataAt w s.content rest (take k run) p) same (gathered.each k inside) in
       let size = length-take-le k run (omega (arith, inside)) in
-      inr (refl, (s.content ++ take k run, byte.front, byte.next, room_next d.body s.content (take k run) values s.body (MayFail breaks (slice_index rest at)) (omega (arith, size, inside, few)) (inl starved)))
+      let byte_is : slice_index rest at ≡ slice_index run k = ap (slice_index rest) (sym same) ∙ gathered.same k inside in
+      let all : s.body.r ++ take (k + 1) run ≡ (s.body.r ++ take k run) ++ slice_index rest at ∷ [] =
+      one_more s.body.r run k inside ∙ ap (λ (c : ℕ). (s.body.r ++ take k run) ++ c ∷ []) (sym byte_is) in
+      let next = room_next d.body s.content (take k run) values s.body (λ r. breaks (r ++ slice_index rest at ∷ []) refusal.NoMemory) (omega (arith, size, inside, few))
+      (subst (λ (y : List ℕ). breaks y refusal.NoMemory) all starved) in
+      inr (refl, (s.content ++ take k run, byte.front, byte.next, next))

@@ -10,7 +10,7 @@ use Rattle.mes_frame.specs.Frames.{record_bytes, IsFrames}
 use Rattle.mes_frame.specs.Record.{IsRecord}
 use Rattle.mes_frame.specs.Write.{NoneFails, CallsFor, StopsWrite}
 use Rattle.mes_frame.specs.Written.{WroteFront}
-use Rattle.mes_frame.specs.declared.counts.Counts.{Counts}
+use Rattle.mes_frame.specs.Devices.{Device}
 use Rattle.mes_frame.specs.declared.write.WriteFault.{WriteFault}
 use Rattle.mes_msg.specs.Canon.{canonical_text, IsGood, IsEncodeFault}
 use Rattle.mes_msg.specs.Events.{Spells}
@@ -74,7 +74,7 @@ unsent_at limit events i event refused.TooDeep inside here good is = first_bad l
 unsent_at limit events i event refused.TooLarge inside here good is = first_bad limit events i event TooLarge inside here good is
 unsent_at limit events i event refused.NoMemory inside here good is = tt
 
-module _ {W : Type 0} (written : W → Option (List ℕ)) (counts : W → Counts) (limit : ℕ) (events : List Event) where
+module _ {W : Type 0} (device : W → Device) (limit : ℕ) (events : List Event) where
   -- the records of the events, cut into chunks, are a stream of the events
   pub stream_of : (most : ℕ) (body w : List ℕ) → most < 2 ^ 64 → IsPlainOf limit events body → IsFrames body most w → IsStreamOf limit most events w
   stream_of most body w small plain frames =
@@ -87,18 +87,18 @@ module _ {W : Type 0} (written : W → Option (List ℕ)) (counts : W → Counts
 
   -- all chunks were written
   pub stream_out : (most : ℕ) (body : List ℕ) (old new : W) → most < 2 ^ 64 → IsPlainOf limit events body
-      → ((w : List ℕ) × IsFrames body most w × Appends (written old) (written new) w) → NoneFails (counts old) (counts new)
-      → ((w : List ℕ) × IsFrames body most w × CallsFor (length w) (counts old) (counts new))
-      → (w : List ℕ) × IsStreamOf limit most events w × WroteAll written counts old new w
+      → ((w : List ℕ) × IsFrames body most w × Appends (device old).bytes (device new).bytes w) → NoneFails (device old).counts (device new).counts
+      → ((w : List ℕ) × IsFrames body most w × CallsFor (length w) (device old).counts (device new).counts)
+      → (w : List ℕ) × IsStreamOf limit most events w × WroteAll device old new w
   stream_out most body old new small plain (w, frames, out) none (v, same, calls) =
-      let P : List ℕ → Type 0 = λ u. CallsFor (length u) (counts old) (counts new) in
+      let P : List ℕ → Type 0 = λ u. CallsFor (length u) (device old).counts (device new).counts in
       (w, stream_of most body w small plain frames, record { out = out; none_fails = none; calls = subst P (framing_is_unique body v w most same frames) calls })
 
   -- the writer failed before the last byte of the chunks
   pub stream_stops : (most : ℕ) (body : List ℕ) (old new : W) (fault : WriteFault) → most < 2 ^ 64 → IsPlainOf limit events body
-      → ((w : List ℕ) × IsFrames body most w × WroteFront (written old) (written new) w fault.sent) → StopsWrite fault.why (counts old) (counts new)
-      → ((w : List ℕ) × IsFrames body most w × CallsFor (length w) (counts old) (counts new))
-      → StopsSending written counts (IsStreamOf limit most events) limit events old new (Write fault)
+      → ((w : List ℕ) × IsFrames body most w × WroteFront (device old).bytes (device new).bytes w fault.sent) → StopsWrite fault.why (device old).counts (device new).counts
+      → ((w : List ℕ) × IsFrames body most w × CallsFor (length w) (device old).counts (device new).counts)
+      → StopsSending device (IsStreamOf limit most events) limit events old new (Write fault)
   stream_stops most body old new fault small plain (w, frames, out) last (v, same, calls) =
-      let P : List ℕ → Type 0 = λ u. CallsFor (length u) (counts old) (counts new) in
+      let P : List ℕ → Type 0 = λ u. CallsFor (length u) (device old).counts (device new).counts in
       (w, stream_of most body w small plain frames, record { out = out; last = last; calls = subst P (framing_is_unique body v w most same frames) calls })

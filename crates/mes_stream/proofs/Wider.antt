@@ -45,15 +45,7 @@ module _ {E : Type 0} (spells : List ℕ → E → Type 0) (breaks wide : List �
         x = h.x;
         spelt = h.spelt;
         records = h.records;
-        is = (
-          h.is.0,
-          h.is.1,
-          h.is.2,
-          elim h.is.3 [
-            | inl k ↦ inl (wider h.is.0 refusal.NoMemory k)
-            | inr k ↦ inr (k.0, wider (h.is.0 ++ c ∷ []) refusal.NoMemory k.1)
-          ],
-        );
+        is = (h.is.0, h.is.1, h.is.2, wider (h.is.0 ++ c ∷ []) refusal.NoMemory h.is.3);
       }
 
   chunked_shows : (ahead limit : ℕ) (w : List ℕ) (values : List E) (c : ℕ) (fault : Fault) → ChunkedShows spells breaks ahead limit w values c fault → ChunkedShows spells wide ahead limit w values c fault

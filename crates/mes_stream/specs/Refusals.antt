@@ -1,5 +1,7 @@
 -- The error of a record whose data have no value, and the resulting error of the stream.
 use Rattle.std.specs.Prelude.{ℕ, List}
+use Rattle.mes_json.specs.Tree.{Tree}
+use Rattle.mes_json.specs.Grammar.{IsText}
 use Rattle.mes_json.specs.Place.{Begins}
 use Rattle.mes_json.specs.declared.limits.TheConstants.{MAX_NESTING}
 use Rattle.mes_msg.specs.Events.{IsRecordFault}
@@ -16,8 +18,12 @@ refusal_of (message.Text f) = refusal.Text f
 refusal_of (message.Field f) = refusal.Field f
 refusal_of message.NoMemory = refusal.NoMemory
 
--- The data r are not an event, for the given reason. An allocation can fail only for data that
--- begin a JSON text.
+-- the data r are a JSON text
+abbrev pub IsJson : List ℕ → Type 0
+IsJson r = (t : Tree) × IsText MAX_NESTING r t
+
+-- The data r are not an event, for the given reason. An allocation can fail only at a byte with
+-- which some JSON text goes on.
 abbrev pub IsEventRefusal : List ℕ → RecordError → Type 0
 IsEventRefusal r (refusal.Text f) = IsRecordFault r (message.Text f)
 IsEventRefusal r (refusal.Field f) = IsRecordFault r (message.Field f)

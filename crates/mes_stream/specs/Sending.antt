@@ -5,7 +5,7 @@ use Rattle.std.specs.Io.KnownBytes.{Appends}
 use Rattle.mes_frame.specs.Frames.{record_bytes, IsFrames}
 use Rattle.mes_frame.specs.Write.{NoneFails, CallsFor, StopsWrite}
 use Rattle.mes_frame.specs.Written.{WroteFront}
-use Rattle.mes_frame.specs.declared.counts.Counts.{Counts}
+use Rattle.mes_frame.specs.Devices.{Device}
 use Rattle.mes_frame.specs.declared.write.WriteFault.{WriteFault}
 use Rattle.mes_msg.specs.Canon.{canonical_text, IsGood, IsEncodeFault}
 use Rattle.mes_msg.specs.Events.{Spells}
@@ -55,16 +55,16 @@ pub record IsStreamOf (limit most : ℕ) (events : List Event) (w : List ℕ) : 
   pub read : IsStream Spells limit w events
 
 -- w was written completely, and no call failed or wrote 0 bytes
-pub record WroteAll {W : Type 0} (written : W → Option (List ℕ)) (counts : W → Counts) (old new : W) (w : List ℕ) : Type 0 where
-  pub out : Appends (written old) (written new) w
-  pub none_fails : NoneFails (counts old) (counts new)
-  pub calls : CallsFor (length w) (counts old) (counts new)
+pub record WroteAll {W : Type 0} (device : W → Device) (old new : W) (w : List ℕ) : Type 0 where
+  pub out : Appends (device old).bytes (device new).bytes w
+  pub none_fails : NoneFails (device old).counts (device new).counts
+  pub calls : CallsFor (length w) (device old).counts (device new).counts
 
 -- exactly the first `sent` bytes of w were written, not all; one call failed, or wrote 0 bytes
-pub record WroteSome {W : Type 0} (written : W → Option (List ℕ)) (counts : W → Counts) (old new : W) (w : List ℕ) (fault : WriteFault) : Type 0 where
-  pub out : WroteFront (written old) (written new) w fault.sent
-  pub last : StopsWrite fault.why (counts old) (counts new)
-  pub calls : CallsFor (length w) (counts old) (counts new)
+pub record WroteSome {W : Type 0} (device : W → Device) (old new : W) (w : List ℕ) (fault : WriteFault) : Type 0 where
+  pub out : WroteFront (device old).bytes (device new).bytes w fault.sent
+  pub last : StopsWrite fault.why (device old).counts (device new).counts
+  pub calls : CallsFor (length w) (device old).counts (device new).counts
 
 -- the reason for which the events were not encoded
 abbrev pub IsUnsent : ℕ → List Event → SendFault → Type 0
@@ -79,7 +79,7 @@ fault_at index refused.TooLarge = Encode index TooLarge
 fault_at index refused.NoMemory = NoMemory
 
 -- why sending failed: an encoding error, with nothing written; or the writer failed inside w
-abbrev pub StopsSending : {W : Type 0} → (W → Option (List ℕ)) → (W → Counts) → (List ℕ → Type 0) → ℕ → List Event → W → W → SendFault → Type 0
-StopsSending written counts Is limit events old new (Encode index why) = IsFirstBad limit events index why × (new ≡ old)
-StopsSending written counts Is limit events old new NoMemory = new ≡ old
-StopsSending written counts Is limit events old new (Write fault) = (w : List ℕ) × Is w × WroteSome written counts old new w fault
+abbrev pub StopsSending : {W : Type 0} → (W → Device) → (List ℕ → Type 0) → ℕ → List Event → W → W → SendFault → Type 0
+StopsSending device Is limit events old new (Encode index why) = IsFirstBad limit events index why × (new ≡ old)
+StopsSending device Is limit events old new NoMemory = new ≡ old
+StopsSending device Is limit events old new (Write fault) = (w : List ℕ) × Is w × WroteSome device old new w fault

@@ -61,17 +61,13 @@ BodyShows spells breaks ahead limit b values c ReadsSpent = ⊥
 BodyShows spells breaks ahead limit b values c (BadEntry at_record) =
     EndsRecord spells limit b values c (λ r. breaks r refusal.BadEntry) × (at_record ≡ number_after ahead values)
 
--- the byte after b is data of a record; `Is` relates the record's data in b to the number of bytes
--- of data after b
-abbrev pub InRecordData : {E : Type 0} → (List ℕ → E → Type 0) → ℕ → List ℕ → List E → (List ℕ → ℕ → Type 0) → Type 0
-InRecordData spells limit b values Is = Following spells limit (λ x. (r : List ℕ) × (left : ℕ) × DataBegun x r left limit × Is r left) b values
+-- the byte after b is data of a record; `Is` holds for the record's data in b
+abbrev pub InRecordData : {E : Type 0} → (List ℕ → E → Type 0) → ℕ → List ℕ → List E → (List ℕ → Type 0) → Type 0
+InRecordData spells limit b values Is = Following spells limit (λ x. (r : List ℕ) × (left : ℕ) × DataBegun x r left limit × Is r) b values
 
--- an allocation may fail at the byte c after the data r of a record, as `breaks` permits
-abbrev pub MayFail : (List ℕ → RecordError → Type 0) → ℕ → List ℕ → ℕ → Type 0
-MayFail breaks c r left = breaks r refusal.NoMemory ⊎ ((left ≡ 1) × breaks (r ++ c ∷ []) refusal.NoMemory)
-
+-- the byte c after b is data of a record, and `breaks` permits an allocation to fail at c
 abbrev pub RunsOut : {E : Type 0} → (List ℕ → E → Type 0) → (List ℕ → RecordError → Type 0) → ℕ → List ℕ → List E → ℕ → Type 0
-RunsOut spells breaks limit b values c = InRecordData spells limit b values (MayFail breaks c)
+RunsOut spells breaks limit b values c = InRecordData spells limit b values (λ r. breaks (r ++ c ∷ []) refusal.NoMemory)
 
 -- the error is detected at the byte c after b, or an allocation fails there, as `breaks` permits
 abbrev pub BodyStops : {E : Type 0} → (List ℕ → E → Type 0) → (List ℕ → RecordError → Type 0) → ℕ → ℕ → List ℕ → List E → ℕ → Fault → Type 0

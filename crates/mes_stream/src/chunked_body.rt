@@ -4,7 +4,7 @@ ghost use Rattle.std.specs.Prelude.{◌≡◌, ◌<◌, ◌≤◌, ℕ, List, []
 ghost use Rattle.mes_frame.specs.ChunkState.{ChunkRepresents, PassesFraming, remaining_of};
 ghost use Rattle.mes_frame.specs.RecordState.{limit_of};
 ghost use Rattle.mes_stream.specs.Taking.{BodyRepresents, Reports};
-ghost use Rattle.mes_stream.specs.Decoding.{ChunkedRepresents, Gathers, LiveBefore};
+ghost use Rattle.mes_stream.specs.Decoding.{ChunkedRepresents, ChunkedStep, Gathers, StaysLive};
 ghost use Rattle.mes_stream.specs.declared.stream_reader.Framing.TheVariants as framing;
 
 use crate::limits::{MAX_GATHERED, MAX_SHORT_CHUNK};
@@ -41,16 +41,9 @@ impl<R: RecordReader> ChunkedBody<R> {
     /// one chunk.
     pub(crate) fn consume(&mut self, rest: &[u8]) -> Step<(), PackedFault>
         requires { 0 < length rest.now }
-        ensures reports { (ahead : ℕ) (w : List ℕ) (values : List R.Value)
-            → ChunkedRepresents R.holds R.spells ahead self.old w values
-            → Reports R.holds R.spells R.breaks ahead framing.Chunked
-            (λ body. ChunkedRepresents R.holds R.spells ahead
-            (record { chunks = self.new.chunks; body = body }))
-            self.new.body (limit_of self.new.body.records) w values rest.now result.used
-            result.out }
-        ensures before { (ahead : ℕ) (w : List ℕ) (values : List R.Value)
-            → ChunkedRepresents R.holds R.spells ahead self.old w values
-            → LiveBefore R.spells (limit_of self.new.body.records) w values rest.now result.used }
+        ensures reports { ChunkedStep R.holds R.spells R.breaks self.old self.new rest.now
+            result.used result.out }
+        ensures before { StaysLive R.holds R.spells self.old self.new rest.now result.used }
         ensures used { (0 < result.used) × (result.used ≤ length rest.now) }
         ensures limit { limit_of self.new.body.records ≡ limit_of self.old.body.records }
     {
@@ -72,16 +65,9 @@ impl<R: RecordReader> ChunkedBody<R> {
     fn take_between(&mut self, rest: &[u8]) -> Step<(), PackedFault>
         requires some { 0 < length rest.now }
         requires none { remaining_of self.old.chunks ≡ 0 }
-        ensures reports { (ahead : ℕ) (w : List ℕ) (values : List R.Value)
-            → ChunkedRepresents R.holds R.spells ahead self.old w values
-            → Reports R.holds R.spells R.breaks ahead framing.Chunked
-            (λ body. ChunkedRepresents R.holds R.spells ahead
-            (record { chunks = self.new.chunks; body = body }))
-            self.new.body (limit_of self.new.body.records) w values rest.now result.used
-            result.out }
-        ensures before { (ahead : ℕ) (w : List ℕ) (values : List R.Value)
-            → ChunkedRepresents R.holds R.spells ahead self.old w values
-            → LiveBefore R.spells (limit_of self.new.body.records) w values rest.now result.used }
+        ensures reports { ChunkedStep R.holds R.spells R.breaks self.old self.new rest.now
+            result.used result.out }
+        ensures before { StaysLive R.holds R.spells self.old self.new rest.now result.used }
         ensures used { (0 < result.used) × (result.used ≤ length rest.now) }
         ensures limit { limit_of self.new.body.records ≡ limit_of self.old.body.records }
     {
@@ -95,16 +81,9 @@ impl<R: RecordReader> ChunkedBody<R> {
     // Consumes short chunks without extensions, while the record continues. Their data are decoded
     // together.
     fn take_short(&mut self, rest: &[u8]) -> Step<(), PackedFault>
-        ensures reports { (ahead : ℕ) (w : List ℕ) (values : List R.Value)
-            → ChunkedRepresents R.holds R.spells ahead self.old w values
-            → Reports R.holds R.spells R.breaks ahead framing.Chunked
-            (λ body. ChunkedRepresents R.holds R.spells ahead
-            (record { chunks = self.new.chunks; body = body }))
-            self.new.body (limit_of self.new.body.records) w values rest.now result.used
-            result.out }
-        ensures before { (ahead : ℕ) (w : List ℕ) (values : List R.Value)
-            → ChunkedRepresents R.holds R.spells ahead self.old w values
-            → LiveBefore R.spells (limit_of self.new.body.records) w values rest.now result.used }
+        ensures reports { ChunkedStep R.holds R.spells R.breaks self.old self.new rest.now
+            result.used result.out }
+        ensures before { StaysLive R.holds R.spells self.old self.new rest.now result.used }
         ensures none { result.used ≡ 0 → self.new ≡ self.old }
         ensures used { result.used ≤ length rest.now }
         ensures limit { limit_of self.new.body.records ≡ limit_of self.old.body.records }
@@ -126,16 +105,9 @@ impl<R: RecordReader> ChunkedBody<R> {
     fn take_framing(&mut self, rest: &[u8]) -> Step<(), PackedFault>
         requires some { 0 < length rest.now }
         requires none { remaining_of self.old.chunks ≡ 0 }
-        ensures reports { (ahead : ℕ) (w : List ℕ) (values : List R.Value)
-            → ChunkedRepresents R.holds R.spells ahead self.old w values
-            → Reports R.holds R.spells R.breaks ahead framing.Chunked
-            (λ body. ChunkedRepresents R.holds R.spells ahead
-            (record { chunks = self.new.chunks; body = body }))
-            self.new.body (limit_of self.new.body.records) w values rest.now result.used
-            result.out }
-        ensures before { (ahead : ℕ) (w : List ℕ) (values : List R.Value)
-            → ChunkedRepresents R.holds R.spells ahead self.old w values
-            → LiveBefore R.spells (limit_of self.new.body.records) w values rest.now result.used }
+        ensures reports { ChunkedStep R.holds R.spells R.breaks self.old self.new rest.now
+            result.used result.out }
+        ensures before { StaysLive R.holds R.spells self.old self.new rest.now result.used }
         ensures used { (0 < result.used) × (result.used ≤ length rest.now) }
         ensures limit { limit_of self.new.body.records ≡ limit_of self.old.body.records }
     {

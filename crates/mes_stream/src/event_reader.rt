@@ -3,7 +3,7 @@
 ghost use Rattle.std.specs.Prelude.{◌≡◌, ◌≢◌, ℕ, ◌^◌, ◌<◌, ◌≤◌, List, [], ◌∷◌, ◌++◌, length, OnOk, OnErr, IfOk, IfErr};
 ghost use Rattle.mes_json.specs.Inner.{inner};
 ghost use Rattle.mes_msg.specs.Events.{Spells};
-ghost use Rattle.mes_stream.specs.Refusals.{IsEventRefusal};
+ghost use Rattle.mes_stream.specs.Refusals.{IsEventRefusal, IsJson};
 ghost use Rattle.mes_stream.specs.EventData.{HoldsData, kept_data};
 
 use crate::record_error::RecordError;
@@ -41,6 +41,8 @@ impl RecordReader for EventReader {
     ghost spells = { Spells };
 
     ghost breaks = { IsEventRefusal };
+
+    ghost whole = { IsJson };
 
     ghost kept = { kept_data };
 

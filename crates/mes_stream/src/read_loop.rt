@@ -54,10 +54,10 @@ pub fn read_device<S: Source, T, C: Consumer<T>>(
 ) -> ReadsEnd<C::Stop>
     requires { C.goes consumer.old to.old consumer.old to.old [] }
     // The bytes read from the device, the states of `consumer` and `to`, and the number of reads.
-    ensures { (w : List ℕ) × Consumes (S.left source.old) (S.left source.new) w
+    ensures { (w : List ℕ) × Consumes (S.device source.old).bytes (S.device source.new).bytes w
         × EndsReads (C.goes consumer.old to.old consumer.new to.new)
         (C.stops consumer.old to.old consumer.new to.new) max_reads
-        (S.counts source.old) (S.counts source.new) (S.left source.new) w result }
+        (S.device source.old).counts (S.device source.new).counts (S.device source.new).bytes w result }
 {
     let mut buffer = [0; MAX_READ];
     'reads: for _ in 0..max_reads {

@@ -140,9 +140,9 @@ impl<R: RecordReader> Body<R> {
         // On an error: an allocation failed at the byte after `taken` bytes of `run`.
         ensures err { IfErr result (λ refused. 0 < length run.now
             → refused.taken < length run.now) }
-        ensures before { (r : List ℕ) → R.holds self.old.reader r
+        ensures begins { (r : List ℕ) → R.holds self.old.reader r
             → IfErr result (λ refused. R.breaks (r
-            ++ take refused.taken run.now) RecordError.NoMemory) }
+            ++ take (refused.taken + 1) run.now) RecordError.NoMemory) }
         ensures limit { limit_of self.new.records ≡ limit_of self.old.records }
     {
         let _ended = self.records.pass(run.len());

@@ -1,6 +1,6 @@
 //! The trait of types that decode the data of records.
 
-ghost use Rattle.std.specs.Prelude.{◌≡◌, ◌≢◌, ℕ, ◌^◌, ◌<◌, ◌≤◌, List, [], ◌++◌, length, take, OnOk, IfOk, IfErr};
+ghost use Rattle.std.specs.Prelude.{◌≡◌, ◌≢◌, ℕ, ◌+◌, ◌^◌, ◌<◌, ◌≤◌, List, [], ◌++◌, length, take, OnOk, IfOk, IfErr};
 ghost use Rattle.mes_stream.specs.RecordValues.{AddsValue};
 ghost use Rattle.mes_stream.specs.declared.record_error.RecordError.{RecordError as Refusal};
 
@@ -18,8 +18,12 @@ pub trait RecordReader: Drop {
     /// The data represent the value.
     ghost spells: { List ℕ → Self.Value → Type 0 };
 
-    /// The data have no value, for the given reason. `NoMemory`: an allocation may fail for them.
+    /// The data have no value, for the given reason. `NoMemory`: an allocation may fail at their
+    /// last byte.
     ghost breaks: { List ℕ → Refusal → Type 0 };
+
+    /// The data are whole, so that their value may need memory.
+    ghost whole: { List ℕ → Type 0 };
 
     /// The number of bytes that the reader buffers.
     ghost kept: { Self → ℕ };
@@ -34,16 +38,19 @@ pub trait RecordReader: Drop {
         // On an error: an allocation failed at the byte after `taken` bytes of `run`.
         ensures err { IfErr result (λ refused. 0 < length bytes.now
             → refused.taken < length bytes.now) }
-        // An allocation can fail only after data for which `breaks` permits it.
-        ensures before { (r : List ℕ) → holds self.old r
+        // An allocation can fail only at a byte for which `breaks` permits it.
+        ensures begins { (r : List ℕ) → holds self.old r
             → IfErr result (λ refused. breaks (r
-            ++ take refused.taken bytes.now) RecordError.NoMemory) };
+            ++ take (refused.taken + 1) bytes.now) RecordError.NoMemory) };
 
     /// Returns the value of a record whose data are complete.
     fn finish(&mut self) -> Result<Self::Value, RecordError>
         ensures ok { (r : List ℕ) → holds self.old r → length r < 2 ^ 64 → IfOk result (spells r) }
         ensures err { (r : List ℕ) → holds self.old r → length r < 2 ^ 64
             → IfErr result (breaks r) }
+        // Data that are not whole have an error of their own.
+        ensures memory { (r : List ℕ) → holds self.old r → length r < 2 ^ 64 → (whole r → ⊥)
+            → IfErr result (λ why. why ≢ RecordError.NoMemory) }
         // After a success: the reader is ready for the next record.
         ensures next { OnOk result (holds self.new []) };
 
@@ -53,6 +60,9 @@ pub trait RecordReader: Drop {
         ensures adds { (r : List ℕ) → holds self.old r → length r < 2 ^ 64
             → AddsValue spells breaks (holds self.new []) r values.old.items values.new.items
             result }
+        // Data that are not whole have an error of their own.
+        ensures memory { (r : List ℕ) → holds self.old r → length r < 2 ^ 64 → (whole r → ⊥)
+            → IfErr result (λ why. why ≢ RecordError.NoMemory) }
         ensures next { OnOk result (holds self.new []) };
 
     /// Returns the error for a record without data. Does not allocate.
@@ -60,9 +70,10 @@ pub trait RecordReader: Drop {
         ensures breaks { breaks [] result }
         ensures memory { result ≢ RecordError.NoMemory };
 
-    /// Frees the buffers. The reader is not used after that.
+    /// Frees the buffers. The reader is as at the beginning of a record.
     fn release(&mut self)
-        ensures { kept self.new ≡ 0 };
+        ensures kept { kept self.new ≡ 0 }
+        ensures holds { holds self.new [] };
 
     /// Returns the number of buffered bytes, without spare capacity.
     fn held(&self) -> u64

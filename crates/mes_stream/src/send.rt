@@ -22,11 +22,11 @@ pub fn write_stream<W: Sink>(
     requires greatest { most ≤ MAX_CHUNK }
     // On success: every event is valid, and the whole stream was written.
     ensures ok { OnOk result ((w : List ℕ) × IsStreamOf limit most events.now w
-        × WroteAll W.written W.counts writer.old writer.new w) }
+        × WroteAll W.device writer.old writer.new w) }
 
     // On an error: an event is invalid or an allocation failed, and nothing was written; or exactly
     // the first `sent` bytes were written.
-    ensures err { IfErr result (StopsSending W.written W.counts (IsStreamOf limit most events.now)
+    ensures err { IfErr result (StopsSending W.device (IsStreamOf limit most events.now)
         limit events.now writer.old writer.new) }
 {
     let body = encode_events(alloc, events, limit)?;
@@ -44,11 +44,11 @@ pub fn write_plain<W: Sink>(
 ) -> Result<(), SendFault>
     // On success: every event is valid, and all records were written.
     ensures ok { OnOk result ((w : List ℕ) × IsPlainOf limit events.now w
-        × WroteAll W.written W.counts writer.old writer.new w) }
+        × WroteAll W.device writer.old writer.new w) }
 
     // On an error: an event is invalid or an allocation failed, and nothing was written; or exactly
     // the first `sent` bytes were written.
-    ensures err { IfErr result (StopsSending W.written W.counts (IsPlainOf limit events.now) limit
+    ensures err { IfErr result (StopsSending W.device (IsPlainOf limit events.now) limit
         events.now writer.old writer.new) }
 {
     let records = encode_events(alloc, events, limit)?;

@@ -30,9 +30,9 @@ pub fn read_plain<S: Source>(
 ) -> Result<Report, Stop>
     // The bytes `w` were read, their events appended, and `EndsPlain` describes the result.
     ensures reads { (w : List ℕ) × (more : List EventValue)
-        × Consumes (S.left reader.old) (S.left reader.new) w
+        × Consumes (S.device reader.old).bytes (S.device reader.new).bytes w
         × (events.new.items ≡ events.old.items ++ more)
-        × EndsPlain limit max_reads (S.counts reader.old) (S.counts reader.new) (S.left reader.new)
+        × EndsPlain limit max_reads (S.device reader.old).counts (S.device reader.new).counts (S.device reader.new).bytes
         w more result }
     // F16 never occurs.
     ensures entries { IfErr result (λ stop. (n : ℕ) → stop.fault ≢ Fault.BadEntry n) }
@@ -51,9 +51,9 @@ pub fn read_stream<S: Source>(
 ) -> Result<Report, Stop>
     // The bytes `w` were read, their events appended, and `EndsStream` describes the result.
     ensures reads { (w : List ℕ) × (more : List EventValue)
-        × Consumes (S.left reader.old) (S.left reader.new) w
+        × Consumes (S.device reader.old).bytes (S.device reader.new).bytes w
         × (events.new.items ≡ events.old.items ++ more)
-        × EndsStream limit max_reads (S.counts reader.old) (S.counts reader.new) (S.left reader.new)
+        × EndsStream limit max_reads (S.device reader.old).counts (S.device reader.new).counts (S.device reader.new).bytes
         w more result }
     // F16 never occurs.
     ensures entries { IfErr result (λ stop. (n : ℕ) → stop.fault ≢ Fault.BadEntry n) }
@@ -72,10 +72,10 @@ pub fn read_events<S: Source>(
 ) -> Result<Report, Stop>
     // The bytes `w` were read, their events appended, and `EndsReading` describes the result.
     ensures reads { (w : List ℕ) × (more : List EventValue)
-        × Consumes (S.left reader.old) (S.left reader.new) w
+        × Consumes (S.device reader.old).bytes (S.device reader.new).bytes w
         × (events.new.items ≡ events.old.items ++ more)
-        × EndsReading framing Spells IsEventRefusal limit max_reads (S.counts reader.old)
-        (S.counts reader.new) (S.left reader.new) w more result }
+        × EndsReading framing Spells IsEventRefusal limit max_reads (S.device reader.old).counts
+        (S.device reader.new).counts (S.device reader.new).bytes w more result }
     // F16 never occurs.
     ensures entries { IfErr result (λ stop. (n : ℕ) → stop.fault ≢ Fault.BadEntry n) }
 {
@@ -94,10 +94,10 @@ fn read_records<R: RecordReader, S: Source>(
 ) -> Result<Report, Stop>
     requires { R.holds records [] }
     ensures { (w : List ℕ) × (more : List R.Value)
-        × Consumes (S.left reader.old) (S.left reader.new) w
+        × Consumes (S.device reader.old).bytes (S.device reader.new).bytes w
         × (values.new.items ≡ values.old.items ++ more)
         × EndsReading framing R.spells (IsRefused R.spells R.breaks) limit max_reads
-        (S.counts reader.old) (S.counts reader.new) (S.left reader.new) w more result }
+        (S.device reader.old).counts (S.device reader.new).counts (S.device reader.new).bytes w more result }
 {
     let mut reading = Reading::new(framing, records, limit);
     let end = read_device(reader, max_reads, &mut reading, values);

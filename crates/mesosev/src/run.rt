@@ -1,6 +1,4 @@
 //! The command over any devices: parses the arguments, and performs the subcommand.
-
-ghost use Rattle.mes_frame.specs.Devices.{device_of};
 ghost use Rattle.std.specs.Prelude.{◌≡◌, codes, ◌⊎◌, false, map};
 ghost use Rattle.mesosev_stream.specs.Outputs.{output_of};
 ghost use Rattle.mesosev_stream.specs.Printing.{LacksMemory, Prints};
@@ -48,19 +46,19 @@ where
     R: AllocGlobal + Net<Listener = TcpListener, Stream = TcpStream>,
     // The effect of the subcommand, the line of a failed output, and the status.
     ensures runs { Ends (Runs (map W.text words.now)
-        (device_of I.left I.counts input.old) (device_of I.left I.counts input.new)
-        (output_of O.written O.counts out.old) (output_of O.written O.counts out.new)
-        (device_of E.written E.counts err.old))
-        out.new.closed (device_of E.written E.counts err.new) result }
+        (I.device input.old) (I.device input.new)
+        (output_of O.device out.old) (output_of O.device out.new)
+        (E.device err.old))
+        out.new.closed (E.device err.new) result }
 
     // If the arguments have their options in order, each at most once: the subcommand is
     // performed, unless an allocation fails.
     ensures plain { (said : OptionsValue) → SayPlainly (map W.text words.now) said → IsInRange said
         → Ends (PerformsSaid said
-        (device_of I.left I.counts input.old) (device_of I.left I.counts input.new)
-        (output_of O.written O.counts out.old) (output_of O.written O.counts out.new)
-        (device_of E.written E.counts err.old))
-        out.new.closed (device_of E.written E.counts err.new) result }
+        (I.device input.old) (I.device input.new)
+        (output_of O.device out.old) (output_of O.device out.new)
+        (E.device err.old))
+        out.new.closed (E.device err.new) result }
 
     // The defaults and ranges of the command-line options. The crates that define other limits
     // state them.
@@ -87,18 +85,18 @@ fn run_args<R, W: AsStr, I: Source, O: Sink, E: Sink>(
 where
     R: AllocGlobal + Net<Listener = TcpListener, Stream = TcpStream>,
     ensures runs { Runs (map W.text words.now)
-        (device_of I.left I.counts input.old) (device_of I.left I.counts input.new)
-        (device_of O.written O.counts out.old) (device_of O.written O.counts out.new)
-        (device_of E.written E.counts err.old) (device_of E.written E.counts err.new)
+        (I.device input.old) (I.device input.new)
+        (O.device out.old) (O.device out.new)
+        (E.device err.old) (E.device err.new)
         result }
 
     // If the arguments have their options in order, each at most once: the subcommand is
     // performed, unless an allocation fails.
     ensures plain { (said : OptionsValue) → SayPlainly (map W.text words.now) said → IsInRange said
         → PerformsSaid said
-        (device_of I.left I.counts input.old) (device_of I.left I.counts input.new)
-        (device_of O.written O.counts out.old) (device_of O.written O.counts out.new)
-        (device_of E.written E.counts err.old) (device_of E.written E.counts err.new)
+        (I.device input.old) (I.device input.new)
+        (O.device out.old) (O.device out.new)
+        (E.device err.old) (E.device err.new)
         result }
 {
     let alloc = rt.alloc();
@@ -119,9 +117,9 @@ fn perform<R, I: Source, O: Sink, E: Sink>(
 where
     R: AllocGlobal + Net<Listener = TcpListener, Stream = TcpStream>,
     ensures { Performs options.now
-        (device_of I.left I.counts input.old) (device_of I.left I.counts input.new)
-        (device_of O.written O.counts out.old) (device_of O.written O.counts out.new)
-        (device_of E.written E.counts err.old) (device_of E.written E.counts err.new)
+        (I.device input.old) (I.device input.new)
+        (O.device out.old) (O.device out.new)
+        (E.device err.old) (E.device err.new)
         result }
 {
     let alloc = rt.alloc();
@@ -163,18 +161,18 @@ fn follow_all<I: Source, O: Sink>(
     input: &mut I,
     out: &mut O,
 ) -> RunOutcome
-    ensures { Follows detail framing limit MAX_READS (device_of I.left I.counts input.old)
-        (device_of I.left I.counts input.new)
-        (device_of O.written O.counts out.old) (device_of O.written O.counts out.new) result }
+    ensures { Follows detail framing limit MAX_READS (I.device input.old)
+        (I.device input.new)
+        (O.device out.old) (O.device out.new) result }
 {
     follow(alloc, detail, framing, limit, MAX_READS, input, out)
 }
 
 /// Prints that an allocation failed before the arguments were parsed, and returns the exit status.
 pub(crate) fn end_without_memory<O: Sink, E: Sink>(out: &mut Output<O>, err: &mut E) -> ExitStatus
-    ensures { Ends (LeavesError (LacksMemory (output_of O.written O.counts out.old)
-        (output_of O.written O.counts out.new)) (device_of E.written E.counts err.old))
-        out.new.closed (device_of E.written E.counts err.new) result }
+    ensures { Ends (LeavesError (LacksMemory (output_of O.device out.old)
+        (output_of O.device out.new)) (E.device err.old))
+        out.new.closed (E.device err.new) result }
 {
     let ended = out_of_memory(out);
     finish(ended, out.is_closed(), err)
@@ -182,9 +180,9 @@ pub(crate) fn end_without_memory<O: Sink, E: Sink>(out: &mut Output<O>, err: &mu
 
 /// Prints to `err` that an argument is not UTF-8, and returns the exit status.
 pub(crate) fn end_without_text<E: Sink>(err: &mut E) -> ExitStatus
-    ensures { Ends (λ reported ended. Prints (device_of E.written E.counts err.old) reported
+    ensures { Ends (λ reported ended. Prints (E.device err.old) reported
         not_text_line ExitStatus.Usage ended)
-        false (device_of E.written E.counts err.new) result }
+        false (E.device err.new) result }
 {
     let ended = ExitStatus::Usage.after(print_text(err, NOT_TEXT));
     finish(ended, false, err)
@@ -194,8 +192,8 @@ pub(crate) fn end_without_text<E: Sink>(err: &mut E) -> ExitStatus
 /// range, or a failed allocation.
 fn tell<O: Sink, E: Sink>(alloc: Global, fault: &WordsFault, out: &mut O, err: &mut E) -> RunOutcome
     ensures { Reports fault.now
-        (device_of O.written O.counts out.old) (device_of O.written O.counts out.new)
-        (device_of E.written E.counts err.old) (device_of E.written E.counts err.new)
+        (O.device out.old) (O.device out.new)
+        (E.device err.old) (E.device err.new)
         result }
 {
     match fault {
@@ -216,10 +214,10 @@ fn report_error<O: Sink, E: Sink>(
     err: &mut E,
 ) -> RunOutcome
     ensures { ReportsError error.now
-        (device_of O.written O.counts out.old) (device_of O.written O.counts out.new)
-        (device_of E.written E.counts err.old) (device_of E.written E.counts err.new)
+        (O.device out.old) (O.device out.new)
+        (E.device err.old) (E.device err.new)
         result
-        ⊎ (LacksMemory (device_of O.written O.counts out.old) (device_of O.written O.counts out.new)
+        ⊎ (LacksMemory (O.device out.old) (O.device out.new)
         result
         × (err.new ≡ err.old)) }
 {

@@ -1,8 +1,7 @@
 -- The effect of `replay` and `relog` on the devices, from the contracts of reading and writing.
 use Rattle.std.proofs.Common.{◌≡◌, ℕ, ◌⊎◌, ◌∷◌, ◌++◌, [], Option, List, Result, ap, ◌∙◌, subst, sym, inl, inr, refl}
 use Rattle.std.specs.Io.KnownBytes.{Consumes}
-use Rattle.mes_frame.specs.Devices.{Device, device_of}
-use Rattle.mes_frame.specs.declared.counts.Counts.{Counts}
+use Rattle.mes_frame.specs.Devices.{Device}
 use Rattle.mes_msg.specs.declared.entry.Entry.{Entry}
 use Rattle.mes_msg.specs.declared.send_fault.SendFault.{SendFault}
 use Rattle.mes_msg.specs.declared.send_fault.SendFault.TheVariants.{Encode, NoMemory, Write}
@@ -36,17 +35,17 @@ pub relogs : (limit : ℕ) (input rest out written err reported : Device) (statu
     → ((w : List ℕ) × ReadsLogInput limit input rest w entries outcome) → RelogsRead limit entries outcome out written err reported status → Relogs limit input rest out written err reported status
 relogs limit input rest out written err reported status entries outcome (w, reads) rests = (w, entries, outcome, reads, rests)
 
-module _ {W : Type 0} (written : W → Option (List ℕ)) (counts : W → Counts) where
-  pub writes_all : (limit : ℕ) (entries : List Entry) (old new : W) (err : Device) → ((w : List ℕ) × IsLogOf limit entries w × WroteAll written counts old new w)
-      → WritesLog limit entries (device_of written counts old) (device_of written counts new) err err exit.Success
+module _ {W : Type 0} (device : W → Device) where
+  pub writes_all : (limit : ℕ) (entries : List Entry) (old new : W) (err : Device) → ((w : List ℕ) × IsLogOf limit entries w × WroteAll device old new w)
+      → WritesLog limit entries (device old) (device new) err err exit.Success
   writes_all limit entries old new err (w, is, all) = inl (w, is, record { out = all.out; none_fails = all.none_fails; calls = all.calls }, refl, refl)
 
-  stops : (limit : ℕ) (entries : List Entry) (old new : W) (fault : SendFault) → StopsLog written counts limit entries old new fault
-      → StopsLog {W = Device} (λ d. d.bytes) (λ d. d.counts) limit entries (device_of written counts old) (device_of written counts new) fault
-  stops limit entries old new (Encode index why) (first, same) = (first, ap (device_of written counts) same)
-  stops limit entries old new NoMemory same = ap (device_of written counts) same
+  stops : (limit : ℕ) (entries : List Entry) (old new : W) (fault : SendFault) → StopsLog device limit entries old new fault
+      → StopsLog {W = Device} (λ d. d) limit entries (device old) (device new) fault
+  stops limit entries old new (Encode index why) (first, same) = (first, ap device same)
+  stops limit entries old new NoMemory same = ap device same
   stops limit entries old new (Write fault) (w, is, some) = (w, is, record { out = some.out; last = some.last; calls = some.calls })
 
-  pub writes_none : (limit : ℕ) (entries : List Entry) (old new : W) (err reported : Device) (fault : SendFault) → StopsLog written counts limit entries old new fault
-      → Tells err reported (send_text fault ++ 10 ∷ []) → WritesLog limit entries (device_of written counts old) (device_of written counts new) err reported exit.Fault
+  pub writes_none : (limit : ℕ) (entries : List Entry) (old new : W) (err reported : Device) (fault : SendFault) → StopsLog device limit entries old new fault
+      → Tells err reported (send_text fault ++ 10 ∷ []) → WritesLog limit entries (device old) (device new) err reported exit.Fault
   writes_none limit entries old new err reported fault stopped told = inr (fault, stops limit entries old new fault stopped, told, refl)

@@ -18,8 +18,8 @@ use Rattle.mesosev_log.specs.Replaying.{ReadsLogInput}
 -- error was printed.
 abbrev pub WritesLog : ℕ → List Entry → Device → Device → Device → Device → ExitStatus → Type 0
 WritesLog limit entries out written err reported status =
-    ((w : List ℕ) × IsLogOf limit entries w × WroteAll {W = Device} (λ d. d.bytes) (λ d. d.counts) out written w × (reported ≡ err) × (status ≡ exit.Success))
-    ⊎ ((fault : SendFault) × StopsLog {W = Device} (λ d. d.bytes) (λ d. d.counts) limit entries out written fault
+    ((w : List ℕ) × IsLogOf limit entries w × WroteAll {W = Device} (λ d. d) out written w × (reported ≡ err) × (status ≡ exit.Success))
+    ⊎ ((fault : SendFault) × StopsLog {W = Device} (λ d. d) limit entries out written fault
     × Tells err reported (send_text fault ++ 10 ∷ []) × (status ≡ exit.Fault))
 
 -- the entries that were read were written, if the log ended; otherwise the error was printed

@@ -1,6 +1,4 @@
 //! The subcommand `relog`.
-
-ghost use Rattle.mes_frame.specs.Devices.{device_of};
 ghost use Rattle.mesosev_log.specs.Relogging.{Relogs, WritesLog};
 
 use mes_frame::{Limit, Sink, Source};
@@ -23,9 +21,9 @@ pub fn relog<I: Source, O: Sink, E: Sink>(
 ) -> ExitStatus
     // The bytes read, the log written, the error printed, and the status.
     ensures { Relogs limit
-        (device_of I.left I.counts input.old) (device_of I.left I.counts input.new)
-        (device_of O.written O.counts out.old) (device_of O.written O.counts out.new)
-        (device_of E.written E.counts err.old) (device_of E.written E.counts err.new)
+        (I.device input.old) (I.device input.new)
+        (O.device out.old) (O.device out.new)
+        (E.device err.old) (E.device err.new)
         result }
 {
     let mut entries = Vec::new(alloc);
@@ -47,8 +45,8 @@ fn send<O: Sink, E: Sink>(
     err: &mut E,
 ) -> ExitStatus
     ensures { WritesLog limit entries.now
-        (device_of O.written O.counts out.old) (device_of O.written O.counts out.new)
-        (device_of E.written E.counts err.old) (device_of E.written E.counts err.new)
+        (O.device out.old) (O.device out.new)
+        (E.device err.old) (E.device err.new)
         result }
 {
     match write_log(alloc, out, entries, limit) {

@@ -1,7 +1,6 @@
 //! The subcommand `replay`.
 
 ghost use Rattle.std.specs.Prelude.{◌⊎◌, [], ◌∷◌, ◌++◌};
-ghost use Rattle.mes_frame.specs.Devices.{device_of};
 ghost use Rattle.mesosev_stream.specs.Printing.{LacksMemory, Prints};
 ghost use Rattle.mes_session.specs.Printed.{refusal_text, report_text};
 ghost use Rattle.mesosev_log.specs.Replaying.{Replays, ReplaysEntries};
@@ -25,9 +24,9 @@ pub fn replay<I: Source, O: Sink>(
     out: &mut O,
 ) -> RunOutcome
     // The bytes read, the text printed, and the outcome.
-    ensures { Replays limit (device_of I.left I.counts input.old)
-        (device_of I.left I.counts input.new)
-        (device_of O.written O.counts out.old) (device_of O.written O.counts out.new) result }
+    ensures { Replays limit (I.device input.old)
+        (I.device input.new)
+        (O.device out.old) (O.device out.new) result }
 {
     let mut entries = Vec::new(alloc);
     match read_log(alloc, input, limit, MAX_READS, &mut entries) {
@@ -38,8 +37,8 @@ pub fn replay<I: Source, O: Sink>(
 
 /// Prints the report of the session, or the refused call.
 fn report_replay<O: Sink>(alloc: Global, entries: &[Entry], out: &mut O) -> RunOutcome
-    ensures { ReplaysEntries entries.now (device_of O.written O.counts out.old)
-        (device_of O.written O.counts out.new) result }
+    ensures { ReplaysEntries entries.now (O.device out.old)
+        (O.device out.new) result }
 {
     match mes_session::replay(alloc, entries) {
         Ok(session) => report_session(&session, entries.len() as u64, out),
@@ -50,9 +49,9 @@ fn report_replay<O: Sink>(alloc: Global, entries: &[Entry], out: &mut O) -> RunO
 /// Prints the report of a session after this number of entries. The status is `Success`, or `Fault`
 /// if an allocation failed.
 fn report_session<O: Sink>(session: &Session, entries: u64, out: &mut O) -> RunOutcome
-    ensures { Prints (device_of O.written O.counts out.old) (device_of O.written O.counts out.new)
+    ensures { Prints (O.device out.old) (O.device out.new)
         (report_text entries session.now) ExitStatus.Success result
-        ⊎ LacksMemory (device_of O.written O.counts out.old) (device_of O.written O.counts out.new)
+        ⊎ LacksMemory (O.device out.old) (O.device out.new)
         result }
 {
     match session.report(entries) {
@@ -63,7 +62,7 @@ fn report_session<O: Sink>(session: &Session, entries: u64, out: &mut O) -> RunO
 
 /// Prints the line of a refused call after `before` entries. The status is `Fault`.
 fn report_refusal<O: Sink>(refusal: &Refusal, before: u64, out: &mut O) -> RunOutcome
-    ensures { Prints (device_of O.written O.counts out.old) (device_of O.written O.counts out.new)
+    ensures { Prints (O.device out.old) (O.device out.new)
         (refusal_text refusal.now before ++ 10 ∷ []) ExitStatus.Fault result }
 {
     let mut line = ArrayString::new();

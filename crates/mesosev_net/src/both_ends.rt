@@ -1,7 +1,6 @@
 //! The subcommand `loopback`: both ends of a connection in one process.
 
 ghost use Rattle.std.specs.Prelude.{◌≡◌, ◌⊎◌};
-ghost use Rattle.mes_frame.specs.Devices.{device_of};
 ghost use Rattle.mesosev_net.specs.Looped.{AnswersLoop, Loops, LoopsEvents, ShowsSome, is_whole};
 ghost use Rattle.mesosev_stream.specs.Printing.{LacksMemory, Prints};
 ghost use Rattle.mesosev_serve.specs.Lines.{write_failed_line};
@@ -52,8 +51,8 @@ pub fn loopback<R, I: Source, O: Sink>(
 where
     R: AllocGlobal + Net<Listener = TcpListener, Stream = TcpStream>,
     // The bytes read from `input`, the text printed, and the outcome.
-    ensures { Loops most (device_of I.left I.counts input.old) (device_of I.left I.counts input.new)
-        (device_of O.written O.counts out.old) (device_of O.written O.counts out.new) result }
+    ensures { Loops most (I.device input.old) (I.device input.new)
+        (O.device out.old) (O.device out.new) result }
 {
     let alloc = rt.alloc();
     let mut events = Vec::new(alloc);
@@ -78,8 +77,8 @@ fn loop_events<R, O: Sink>(
 ) -> RunOutcome
 where
     R: AllocGlobal + Net<Listener = TcpListener, Stream = TcpStream>,
-    ensures { LoopsEvents stream most events.now (device_of O.written O.counts out.old)
-        (device_of O.written O.counts out.new) result }
+    ensures { LoopsEvents stream most events.now (O.device out.old)
+        (O.device out.new) result }
 {
     let alloc = rt.alloc();
     let pair = match connected_pair(rt) {
@@ -104,8 +103,8 @@ fn answer<O: Sink>(
     pair: &Pair,
     out: &mut O,
 ) -> RunOutcome
-    ensures { AnswersLoop stream most events.now (device_of O.written O.counts out.old)
-        (device_of O.written O.counts out.new) result }
+    ensures { AnswersLoop stream most events.now (O.device out.old)
+        (O.device out.new) result }
 {
     let Ok(mut master) = test_master(alloc, stream, 1) else {
         return out_of_memory(out);
@@ -152,9 +151,9 @@ fn show<O: Sink>(
     was_asked: bool,
     out: &mut O,
 ) -> RunOutcome
-    ensures { ShowsSome (device_of O.written O.counts out.old)
-        (device_of O.written O.counts out.new) result
-        ⊎ LacksMemory (device_of O.written O.counts out.old) (device_of O.written O.counts out.new)
+    ensures { ShowsSome (O.device out.old)
+        (O.device out.new) result
+        ⊎ LacksMemory (O.device out.old) (O.device out.new)
         result }
 {
     if bytes.is_empty() && was_asked {
@@ -172,8 +171,8 @@ fn show<O: Sink>(
 
 /// Prints the response that `reader` returns.
 fn show_from<S: Source, O: Sink>(alloc: Global, reader: &mut S, out: &mut O) -> RunOutcome
-    ensures { ShowsSome (device_of O.written O.counts out.old)
-        (device_of O.written O.counts out.new) result }
+    ensures { ShowsSome (O.device out.old)
+        (O.device out.new) result }
 {
     show_answer(alloc, reader, MAX_READS, out)
 }
@@ -181,9 +180,9 @@ fn show_from<S: Source, O: Sink>(alloc: Global, reader: &mut S, out: &mut O) -> 
 /// Prints the reason for which there is no response: the response could not be encoded, or an
 /// allocation failed.
 fn report_unanswered<O: Sink>(out: &mut O, refusals: u64) -> RunOutcome
-    ensures { Prints (device_of O.written O.counts out.old) (device_of O.written O.counts out.new)
+    ensures { Prints (O.device out.old) (O.device out.new)
         write_failed_line ExitStatus.Fault result
-        ⊎ LacksMemory (device_of O.written O.counts out.old) (device_of O.written O.counts out.new)
+        ⊎ LacksMemory (O.device out.old) (O.device out.new)
         result }
 {
     if refusals == 0 {

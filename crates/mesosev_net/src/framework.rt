@@ -12,7 +12,7 @@ use std::alloc::Global;
 const FRAMEWORK: &str = "F1";
 
 /// Returns the framework id of the test master: `F1`.
-pub(crate) fn framework_id(alloc: Global) -> Result<Id, NoMemory>
+pub fn framework_id(alloc: Global) -> Result<Id, NoMemory>
     ensures { IfOk result (λ id. id ≡ test_framework) }
 {
     let value = Text::of(alloc, FRAMEWORK)?;

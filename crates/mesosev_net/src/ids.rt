@@ -8,7 +8,7 @@ use std::alloc::Global;
 use uuid::Uuid;
 
 /// Returns `count` consecutive stream ids: 128-bit numbers that wrap around.
-pub(crate) fn stream_ids(alloc: Global, first: Uuid, count: u16) -> Result<Vec<Uuid>, NoMemory>
+pub fn stream_ids(alloc: Global, first: Uuid, count: u16) -> Result<Vec<Uuid>, NoMemory>
     ensures { IfOk result (λ ids. ids.items ≡ ids_from first count) }
 {
     let number = first.as_u128();

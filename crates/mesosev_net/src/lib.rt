@@ -22,7 +22,10 @@ mod subscribing;
 mod theorems;
 
 pub use both_ends::{LOOPBACK_STREAM, loopback};
+pub use framework::framework_id;
+pub use ids::stream_ids;
 pub use interleaved::MAX_UNREAD;
+pub use lines::BIND_FAILED;
 pub use serving::{STREAM_CHUNK, serve};
 pub use subscribing::subscribe;
 pub use theorems::net_limits;

@@ -1,7 +1,7 @@
 //! The printed lines for a socket that could not be opened.
 
 /// The address could not be bound.
-pub(crate) const BIND_FAILED: &str = "net bind failed\n";
+pub const BIND_FAILED: &str = "net bind failed\n";
 
 /// No connection could be accepted.
 pub(crate) const ACCEPT_FAILED: &str = "net accept failed\n";

@@ -1,7 +1,6 @@
 //! The subcommand `serve`: a test master that serves connections one after the other.
 
 ghost use Rattle.std.specs.Prelude.{◌≡◌, IfOk};
-ghost use Rattle.mes_frame.specs.Devices.{device_of};
 ghost use Rattle.mesosev_serve.specs.Runs.{new_master};
 ghost use Rattle.mesosev_net.specs.Given.{test_framework};
 ghost use Rattle.mesosev_net.specs.ServedTurns.{Serves, ServesEvents, ServesNext, ServesTurns};
@@ -52,9 +51,9 @@ pub fn serve<R, I: Source, O: Sink>(
 where
     R: AllocGlobal + Net<Listener = TcpListener, Stream = TcpStream>,
     // The bytes read from `input`, the lines printed, and the outcome.
-    ensures { Serves stream count (device_of I.left I.counts input.old)
-        (device_of I.left I.counts input.new)
-        (device_of O.written O.counts out.old) (device_of O.written O.counts out.new) result }
+    ensures { Serves stream count (I.device input.old)
+        (I.device input.new)
+        (O.device out.old) (O.device out.new) result }
 {
     let alloc = rt.alloc();
     let mut events = Vec::new(alloc);
@@ -75,8 +74,8 @@ fn serve_events<R, O: Sink>(
 ) -> RunOutcome
 where
     R: AllocGlobal + Net<Listener = TcpListener, Stream = TcpStream>,
-    ensures { ServesEvents stream count events.now (device_of O.written O.counts out.old)
-        (device_of O.written O.counts out.new) result }
+    ensures { ServesEvents stream count events.now (O.device out.old)
+        (O.device out.new) result }
 {
     let alloc = rt.alloc();
     let Ok(mut master) = test_master(alloc, stream, count) else {
@@ -106,8 +105,8 @@ fn serve_turns<O: Sink>(
     count: u16,
     out: &mut O,
 ) -> RunOutcome
-    ensures { ServesTurns master.old events.now count (device_of O.written O.counts out.old)
-        (device_of O.written O.counts out.new) result }
+    ensures { ServesTurns master.old events.now count (O.device out.old)
+        (O.device out.new) result }
 {
     let mut printed: u64 = 0;
     for _ in 0..count {
@@ -129,8 +128,8 @@ fn serve_next<O: Sink>(
     events: &[Event],
     out: &mut O,
 ) -> Result<u64, RunOutcome>
-    ensures { ServesNext master.old events.now (device_of O.written O.counts out.old)
-        (device_of O.written O.counts out.new) master.new result }
+    ensures { ServesNext master.old events.now (O.device out.old)
+        (O.device out.new) master.new result }
 {
     let Ok((stream, _peer)) = listener.accept() else {
         return Err(ExitStatus::Fault.after(print_text(out, ACCEPT_FAILED)));

@@ -1,6 +1,4 @@
 //! The subcommand `subscribe`: a scheduler that subscribes to a master.
-
-ghost use Rattle.mes_frame.specs.Devices.{device_of};
 ghost use Rattle.mesosev_net.specs.Subscribed.{Subscribes};
 
 use crate::framework::framework_info;
@@ -27,8 +25,8 @@ pub fn subscribe<R, O: Sink>(
 where
     R: AllocGlobal + Net<Listener = TcpListener, Stream = TcpStream>,
     // The text printed, and the outcome.
-    ensures { Subscribes to.now user.now name.now reads (device_of O.written O.counts out.old)
-        (device_of O.written O.counts out.new) result }
+    ensures { Subscribes to.now user.now name.now reads (O.device out.old)
+        (O.device out.new) result }
 {
     let alloc = rt.alloc();
     let Ok(info) = framework_info(alloc, user.as_str(), name.as_str()) else {

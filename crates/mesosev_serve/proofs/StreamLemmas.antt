@@ -433,9 +433,9 @@ never-twice m rest front between back id is all =
     both_ways (is_among id (rescinded_in (front ++ rescind_of id ∷ between))) may.1 (rescinded-there id front between)
 
 pub rescinds-once : (m : MasterState) (given front between back : List Event) (id : Id) → IsOneStream m given (front ++ (rescind_of id ∷ (between ++ (rescind_of id ∷ back)))) → ⊥
-rescinds-once m given [] between back id one = (let e : rescind_of id ∷ (between ++ (rescind_of id ∷ back)) ≡ subscribed_event m.framework ∷ one.rest = one.begins in absurd (cc))
+rescinds-once m given [] between back id one = (let e : rescind_of id ∷ (between ++ (rescind_of id ∷ back)) ≡ subscribed_event m.framework m.interval ∷ one.rest = one.begins in absurd (cc))
 rescinds-once m given (x ∷ front) between back id one =
     never-twice m one.rest front between back id
-    (let e : x ∷ (front ++ (rescind_of id ∷ (between ++ (rescind_of id ∷ back)))) ≡ subscribed_event m.framework ∷ one.rest = one.begins in
+    (let e : x ∷ (front ++ (rescind_of id ∷ (between ++ (rescind_of id ∷ back)))) ≡ subscribed_event m.framework m.interval ∷ one.rest = one.begins in
     let f : front ++ (rescind_of id ∷ (between ++ (rescind_of id ∷ back))) ≡ one.rest = cc in sym f)
     one.follow

@@ -80,9 +80,9 @@ module _ (most : ℕ) (id records : List ℕ) (a b c : Device) (out : Appends a.
 records_written : {T : Type 0} (most : ℕ) (id records : List ℕ) (events : List Event) (a b : Device) (sent : Result T SendError) → most < 2 ^ 64
     → IsPlainOf DEFAULT_RECORD_LIMIT events records → WritesRecords most id records a b sent → Writes most (Stream id events) a b sent
 records_written most id records events a b (Ok done) small plain (w, framed, out) =
-    (ok_text id ++ w, (w, stream_of (λ (d : Device). d.bytes) (λ (d : Device). d.counts) DEFAULT_RECORD_LIMIT events most records w small plain framed, refl), out)
+    (ok_text id ++ w, (w, stream_of (λ (d : Device). d) DEFAULT_RECORD_LIMIT events most records w small plain framed, refl), out)
 records_written most id records events a b (Err unsent.Write) small plain (w, framed, stops) =
-    (ok_text id ++ w, (w, stream_of (λ (d : Device). d.bytes) (λ (d : Device). d.counts) DEFAULT_RECORD_LIMIT events most records w small plain framed, refl), stops)
+    (ok_text id ++ w, (w, stream_of (λ (d : Device). d) DEFAULT_RECORD_LIMIT events most records w small plain framed, refl), stops)
 records_written most id records events a b (Err unsent.NoMemory) small plain none = absurd none
 records_written most id records events a b (Err unsent.Encode) small plain none = absurd none
 

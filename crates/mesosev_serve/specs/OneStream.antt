@@ -81,7 +81,7 @@ AllFollow m front (e ∷ events) = MayFollow m front e × AllFollow m (front ++ 
 -- follow those before it.
 pub record IsOneStream (m : MasterState) (given events : List Event) : Type 0 where
   pub rest : List Event
-  pub begins : events ≡ subscribed_event m.framework ∷ rest
+  pub begins : events ≡ subscribed_event m.framework m.interval ∷ rest
   pub some : IsSublist rest given
   pub follow : AllFollow m [] rest
 

@@ -27,11 +27,11 @@ first_subscribe info = subscribe_call None info
 
 -- the request that has a SUBSCRIBE and no stream id was written completely
 abbrev pub SentSubscribe : FrameworkInfo → List ℕ → Device → Device → Type 0
-SentSubscribe info host old new = WroteCall (λ (d : Device). d.bytes) (λ (d : Device). d.counts) host None (first_subscribe info) old new
+SentSubscribe info host old new = WroteCall (λ (d : Device). d) host None (first_subscribe info) old new
 
 -- SUBSCRIBE could not be encoded, and nothing was written; or the writer failed
 abbrev pub StopsSubscribe : FrameworkInfo → List ℕ → Device → Device → SendFault → Type 0
-StopsSubscribe info host old new fault = StopsCall (λ (d : Device). d.bytes) (λ (d : Device). d.counts) host None (first_subscribe info) old new fault
+StopsSubscribe info host old new fault = StopsCall (λ (d : Device). d) host None (first_subscribe info) old new fault
 
 abbrev pub SendsSubscribe : {T : Type 0} → FrameworkInfo → List ℕ → Device → Device → Result T SendFault → Type 0
 SendsSubscribe info host old new (Ok done) = SentSubscribe info host old new

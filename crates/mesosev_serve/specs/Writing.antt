@@ -16,11 +16,11 @@ use Rattle.mesosev_serve.specs.declared.response_writer.SendError.TheVariants as
 
 -- w was written completely
 abbrev pub Wrote : Device → Device → List ℕ → Type 0
-Wrote old new w = WroteAll (λ (d : Device). d.bytes) (λ (d : Device). d.counts) old new w
+Wrote old new w = WroteAll (λ (d : Device). d) old new w
 
 -- only the first `sent` bytes of w were written, and one call failed, as the error `fault` states
 abbrev pub Stopped : Device → Device → List ℕ → WriteFault → Type 0
-Stopped old new w fault = WroteSome (λ (d : Device). d.bytes) (λ (d : Device). d.counts) old new w fault
+Stopped old new w fault = WroteSome (λ (d : Device). d) old new w fault
 
 -- the bytes w are the response: nothing, a status, or the head of a stream and its events in chunks
 abbrev pub IsReplyText : ℕ → Reply → List ℕ → Type 0

@@ -1,7 +1,6 @@
 //! The result of a served connection, and its printed lines.
 
 ghost use Rattle.std.specs.Prelude.{◌≡◌};
-ghost use Rattle.mes_frame.specs.Devices.{device_of};
 ghost use Rattle.mesosev_serve.specs.Lines.{Reports, is_answered, served_lines};
 
 use crate::lines::served_lines;
@@ -29,7 +28,7 @@ pub(crate) fn report_served<O: Sink>(
     sent: &Result<(), SendError>,
 ) -> Result<Served, WriteFault>
     ensures { Reports (served_lines reply.now asked.now sent.now) (is_answered sent.now)
-        (device_of O.written O.counts out.old) (device_of O.written O.counts out.new) result }
+        (O.device out.old) (O.device out.new) result }
 {
     let lines = served_lines(reply, asked, sent);
     write_all(out, lines.as_str().as_bytes())?;

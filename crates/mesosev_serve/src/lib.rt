@@ -24,6 +24,7 @@ mod theorems;
 
 pub use connection::Served;
 pub use lines::WRITE_FAILED;
+pub use request::call_name;
 pub use serve::serve_one;
 pub use subscribing::{report_unsent, send_subscribe, show_answer, subscribe_over};
 pub use theorems::serve_laws;

@@ -36,8 +36,8 @@ impl ParsedRequest {
 
 /// Reads a request and decodes its call.
 pub(crate) fn ask<R: Source>(alloc: Global, reader: &mut R) -> ParsedRequest
-    ensures { (taken : List ℕ) × Consumes (R.left reader.old) (R.left reader.new) taken
-        × IsAsked taken (R.counts reader.old) (R.counts reader.new) result }
+    ensures { (taken : List ℕ) × Consumes (R.device reader.old).bytes (R.device reader.new).bytes taken
+        × IsAsked taken (R.device reader.old).counts (R.device reader.new).counts result }
 {
     match read_request(alloc, reader) {
         Ok(request) => parse_request(alloc, request),
@@ -56,7 +56,7 @@ fn parse_request(alloc: Global, request: Request) -> ParsedRequest
 }
 
 /// Returns the name of the call's type (scheduler.proto, `Call.Type`).
-fn call_name(call: &Call) -> &'static str
+pub fn call_name(call: &Call) -> &'static str
     ensures name { result.now ≡ call_name call.now }
     ensures bound { length result.now ≤ 11 }
 {

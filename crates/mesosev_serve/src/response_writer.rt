@@ -1,7 +1,6 @@
 //! Writes a response.
 
 ghost use Rattle.std.specs.Prelude.{◌≤◌};
-ghost use Rattle.mes_frame.specs.Devices.{device_of};
 ghost use Rattle.mesosev_serve.specs.Writing.{Writes, WritesRecords};
 ghost use Rattle.mesosev_serve.specs.declared.response.Reply.TheVariants as reply;
 
@@ -60,8 +59,8 @@ pub(crate) fn write_reply<W: Sink>(
     most: ChunkSize,
     writer: &mut W,
 ) -> Result<(), SendError>
-    ensures { Writes most reply.now (device_of W.written W.counts writer.old)
-        (device_of W.written W.counts writer.new) result }
+    ensures { Writes most reply.now (W.device writer.old)
+        (W.device writer.new) result }
 {
     match reply {
         Reply::Nothing => Ok(()),
@@ -72,8 +71,8 @@ pub(crate) fn write_reply<W: Sink>(
 
 /// Writes a status without a body.
 fn write_head<W: Sink>(code: StatusCode, writer: &mut W) -> Result<(), SendError>
-    ensures { Writes 1 (reply.Status code) (device_of W.written W.counts writer.old)
-        (device_of W.written W.counts writer.new) result }
+    ensures { Writes 1 (reply.Status code) (W.device writer.old)
+        (W.device writer.new) result }
 {
     write_status(writer, code)?;
     Ok(())
@@ -87,8 +86,8 @@ fn write_stream<W: Sink>(
     most: ChunkSize,
     writer: &mut W,
 ) -> Result<(), SendError>
-    ensures { Writes most (reply.Stream id.now events.now) (device_of W.written W.counts writer.old)
-        (device_of W.written W.counts writer.new) result }
+    ensures { Writes most (reply.Stream id.now events.now) (W.device writer.old)
+        (W.device writer.new) result }
 {
     let Ok(all) = events.all(alloc) else {
         return Err(SendError::NoMemory);
@@ -106,8 +105,8 @@ fn write_records<W: Sink>(
 ) -> Result<(), SendError>
     requires least { MIN_CHUNK ≤ most }
     requires greatest { most ≤ MAX_CHUNK }
-    ensures { WritesRecords most id.now records.now (device_of W.written W.counts writer.old)
-        (device_of W.written W.counts writer.new) result }
+    ensures { WritesRecords most id.now records.now (W.device writer.old)
+        (W.device writer.new) result }
 {
     write_ok(writer, id)?;
     write_chunked(writer, records, most)?;

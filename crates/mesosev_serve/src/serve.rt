@@ -1,6 +1,4 @@
 //! The master's end of a connection. `subscribing.rt` has the scheduler's end.
-
-ghost use Rattle.mes_frame.specs.Devices.{device_of};
 ghost use Rattle.mesosev_serve.specs.Serving.{ServesOne};
 
 use crate::connection::{Served, report_served};
@@ -37,10 +35,10 @@ pub fn serve_one<R: Source, W: Sink, O: Sink>(
     out: &mut O,
 ) -> Result<Served, WriteFault>
     // The bytes read, written and printed, the master's new state, and the result.
-    ensures { ServesOne master.old events.now most (device_of R.left R.counts reader.old)
-        (device_of R.left R.counts reader.new)
-        (device_of W.written W.counts writer.old) (device_of W.written W.counts writer.new)
-        (device_of O.written O.counts out.old) (device_of O.written O.counts out.new) master.new
+    ensures { ServesOne master.old events.now most (R.device reader.old)
+        (R.device reader.new)
+        (W.device writer.old) (W.device writer.new)
+        (O.device out.old) (O.device out.new) master.new
         result }
 {
     let asked = ask(alloc, reader);

@@ -1,7 +1,6 @@
 //! The scheduler's end of a connection: subscribes, and prints the events of the stream.
 
 ghost use Rattle.std.specs.Prelude.{◌≡◌, ◌≤◌, length, All, IfOk};
-ghost use Rattle.mes_frame.specs.Devices.{device_of};
 ghost use Rattle.mes_double_http.specs.StreamIds.{IsVisible};
 ghost use Rattle.mesosev_stream.specs.Printing.{Prints};
 ghost use Rattle.mesosev_stream.specs.Showing.{Shows};
@@ -48,10 +47,10 @@ pub fn subscribe_over<R: Source, W: Sink, O: Sink>(
     requires visible { All IsVisible host.now }
     requires reads { max_reads ≤ MAX_READS }
     // The bytes written, read and printed, and the outcome.
-    ensures { SubscribesOver info.now host.now max_reads (device_of R.left R.counts reader.old)
-        (device_of R.left R.counts reader.new)
-        (device_of W.written W.counts writer.old) (device_of W.written W.counts writer.new)
-        (device_of O.written O.counts out.old) (device_of O.written O.counts out.new) result }
+    ensures { SubscribesOver info.now host.now max_reads (R.device reader.old)
+        (R.device reader.new)
+        (W.device writer.old) (W.device writer.new)
+        (O.device out.old) (O.device out.new) result }
 {
     match send_subscribe(alloc, info, host, writer) {
         Ok(()) => show_answer(alloc, reader, max_reads, out),
@@ -71,8 +70,8 @@ pub fn send_subscribe<W: Sink>(
     requires greatest { length host.now ≤ MAX_HOST }
     requires visible { All IsVisible host.now }
     // On success: the whole request was written. Then: when each error is returned.
-    ensures { SendsSubscribe info.now host.now (device_of W.written W.counts writer.old)
-        (device_of W.written W.counts writer.new) result }
+    ensures { SendsSubscribe info.now host.now (W.device writer.old)
+        (W.device writer.new) result }
 {
     match first_subscribe(alloc, info) {
         Ok(call) => write_call(alloc, writer, host, None, &call),
@@ -91,9 +90,9 @@ pub fn show_answer<R: Source, O: Sink>(
 ) -> RunOutcome
     requires { max_reads ≤ MAX_READS }
     // The bytes read and printed, and the outcome.
-    ensures { ShowsAnswer max_reads (device_of R.left R.counts reader.old)
-        (device_of R.left R.counts reader.new)
-        (device_of O.written O.counts out.old) (device_of O.written O.counts out.new) result }
+    ensures { ShowsAnswer max_reads (R.device reader.old)
+        (R.device reader.new)
+        (O.device out.old) (O.device out.new) result }
 {
     match read_head(reader) {
         Ok(_) => show_stream(alloc, reader, max_reads, out),
@@ -110,8 +109,8 @@ fn show_stream<R: Source, O: Sink>(
 ) -> RunOutcome
     requires { max_reads ≤ MAX_READS }
     ensures { Shows Framing.Chunked DEFAULT_RECORD_LIMIT max_reads
-        (device_of R.left R.counts reader.old) (device_of R.left R.counts reader.new)
-        (device_of O.written O.counts out.old) (device_of O.written O.counts out.new) result }
+        (R.device reader.old) (R.device reader.new)
+        (O.device out.old) (O.device out.new) result }
 {
     follow(
         alloc,
@@ -128,8 +127,8 @@ fn show_stream<R: Source, O: Sink>(
 /// failed. The status is `Fault`.
 pub fn report_unsent<O: Sink>(out: &mut O, fault: &SendFault) -> RunOutcome
     // The line printed, and the outcome.
-    ensures { ReportsUnsent fault.now (device_of O.written O.counts out.old)
-        (device_of O.written O.counts out.new) result }
+    ensures { ReportsUnsent fault.now (O.device out.old)
+        (O.device out.new) result }
 {
     match fault {
         SendFault::NoMemory => out_of_memory(out),
@@ -141,7 +140,7 @@ pub fn report_unsent<O: Sink>(out: &mut O, fault: &SendFault) -> RunOutcome
 
 /// Prints the reason for which a head opens no stream. The status is `Fault`.
 fn report_refused<O: Sink>(out: &mut O, fault: &HeadFault) -> RunOutcome
-    ensures { Prints (device_of O.written O.counts out.old) (device_of O.written O.counts out.new)
+    ensures { Prints (O.device out.old) (O.device out.new)
         (refused_line fault.now) ExitStatus.Fault result }
 {
     let mut why = ArrayString::new();

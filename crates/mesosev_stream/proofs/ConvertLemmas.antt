@@ -1,7 +1,6 @@
 -- The effect of `convert` on the devices, from the contracts of reading and writing events.
 use Rattle.std.proofs.Common.{◌≡◌, ℕ, ◌∷◌, ◌++◌, [], Option, List, Result, ap, ◌∙◌, subst, inl, inr, refl}
 use Rattle.std.specs.Io.KnownBytes.{Consumes}
-use Rattle.mes_frame.specs.declared.counts.Counts.{Counts}
 use Rattle.mes_msg.specs.Events.{Spells}
 use Rattle.mes_stream.specs.Refusals.{IsEventRefusal}
 use Rattle.mes_msg.specs.Event.{Event}
@@ -14,28 +13,28 @@ use Rattle.mes_stream.specs.declared.fault.Report.{Report}
 use Rattle.mes_stream.specs.declared.fault.Stop.{Stop}
 use Rattle.mes_stream.specs.declared.stream_reader.Framing.{Framing}
 use Rattle.mesosev_stream.specs.Converting.{Converts, IsConverted, Sends, SendsRead}
-use Rattle.mes_frame.specs.Devices.{Device, device_of}
+use Rattle.mes_frame.specs.Devices.{Device}
 use Rattle.mesosev_stream.specs.Printing.{Tells}
 use Rattle.mesosev_stream.specs.declared.exit_status.ExitStatus.{ExitStatus}
 use Rattle.mesosev_stream.specs.declared.exit_status.ExitStatus.TheVariants as exit
 use Rattle.mesosev_stream.specs.declared.limits.TheConstants.{MAX_READS}
 
-module _ {W : Type 0} (written : W → Option (List ℕ)) (counts : W → Counts) where
+module _ {W : Type 0} (device : W → Device) where
   pub sends_all : (limit : ℕ) (most : Option ℕ) (events : List Event) (old new : W) (err : Device)
-      → ((w : List ℕ) × IsConverted limit most events w × WroteAll written counts old new w)
-      → Sends limit most events (device_of written counts old) (device_of written counts new) err err exit.Success
+      → ((w : List ℕ) × IsConverted limit most events w × WroteAll device old new w)
+      → Sends limit most events (device old) (device new) err err exit.Success
   sends_all limit most events old new err (w, is, all) = inl (w, is, record { out = all.out; none_fails = all.none_fails; calls = all.calls }, refl, refl)
 
   stops : (limit : ℕ) (most : Option ℕ) (events : List Event) (old new : W) (fault : SendFault)
-      → StopsSending written counts (IsConverted limit most events) limit events old new fault
-      → StopsSending {W = Device} (λ d. d.bytes) (λ d. d.counts) (IsConverted limit most events) limit events (device_of written counts old) (device_of written counts new) fault
-  stops limit most events old new (Encode index why) (first, same) = (first, ap (device_of written counts) same)
-  stops limit most events old new NoMemory same = ap (device_of written counts) same
+      → StopsSending device (IsConverted limit most events) limit events old new fault
+      → StopsSending {W = Device} (λ d. d) (IsConverted limit most events) limit events (device old) (device new) fault
+  stops limit most events old new (Encode index why) (first, same) = (first, ap device same)
+  stops limit most events old new NoMemory same = ap device same
   stops limit most events old new (Write fault) (w, is, some) = (w, is, record { out = some.out; last = some.last; calls = some.calls })
 
   pub sends_none : (limit : ℕ) (most : Option ℕ) (events : List Event) (old new : W) (err reported : Device) (fault : SendFault)
-      → StopsSending written counts (IsConverted limit most events) limit events old new fault → Tells err reported (send_text fault ++ 10 ∷ [])
-      → Sends limit most events (device_of written counts old) (device_of written counts new) err reported exit.Fault
+      → StopsSending device (IsConverted limit most events) limit events old new fault → Tells err reported (send_text fault ++ 10 ∷ [])
+      → Sends limit most events (device old) (device new) err reported exit.Fault
   sends_none limit most events old new err reported fault stopped told = inr (fault, stops limit most events old new fault stopped, told, refl)
 
 pub converts : (framing : Framing) (limit : ℕ) (most : Option ℕ) (input rest out written err reported : Device) (status : ExitStatus) (before events : List Event) (outcome : Result Report Stop) → before ≡ []

@@ -23,9 +23,9 @@ IsConverted limit (Some most) events w = IsStreamOf limit most events w
 -- error was printed.
 abbrev pub Sends : ℕ → Option ℕ → List Event → Device → Device → Device → Device → ExitStatus → Type 0
 Sends limit most events out written err reported status =
-    ((w : List ℕ) × IsConverted limit most events w × WroteAll {W = Device} (λ d. d.bytes) (λ d. d.counts) out written w
+    ((w : List ℕ) × IsConverted limit most events w × WroteAll {W = Device} (λ d. d) out written w
     × (reported ≡ err) × (status ≡ exit.Success))
-    ⊎ ((fault : SendFault) × StopsSending {W = Device} (λ d. d.bytes) (λ d. d.counts) (IsConverted limit most events) limit events out written fault
+    ⊎ ((fault : SendFault) × StopsSending {W = Device} (λ d. d) (IsConverted limit most events) limit events out written fault
     × Tells err reported (send_text fault ++ 10 ∷ []) × (status ≡ exit.Fault))
 
 -- the events that were read were written, if the stream ended; otherwise the error was printed

@@ -1,16 +1,15 @@
 -- The writer of an output, and the condition for a closed output.
-use Rattle.std.specs.Prelude.{ℕ, Bool, true, false, ◌||◌, List, Option, Result, Ok, Err}
+use Rattle.std.specs.Prelude.{ℕ, Bool, true, false, ◌||◌, Result, Ok, Err}
 use Rattle.std.specs.IoError.{error_kind}
 use Rattle.std.specs.declared.io.Error.{Error}
 use Rattle.std.specs.declared.io.ErrorKind.{ErrorKind}
 use Rattle.std.specs.declared.io.ErrorKind.TheVariants.{BrokenPipe}
-use Rattle.mes_frame.specs.Devices.{Device, device_of}
-use Rattle.mes_frame.specs.declared.counts.Counts.{Counts}
+use Rattle.mes_frame.specs.Devices.{Device}
 use Rattle.mesosev_stream.specs.declared.output.Output.{Output}
 
 -- the device of the writer `inner` of an output
-abbrev pub output_of : {W : Type 0} → (W → Option (List ℕ)) → (W → Counts) → Output W → Device
-output_of written counts o = device_of written counts o.inner
+abbrev pub output_of : {W : Type 0} → (W → Device) → Output W → Device
+output_of device o = device o.inner
 
 -- true if an error of the given kind means that a pipe has no reader
 abbrev pub is_closed : ErrorKind → Bool

@@ -3,7 +3,6 @@
 ghost use Rattle.std.specs.Prelude.{◌≡◌, OnOk, IfErr, List, ℕ};
 ghost use Rattle.mes_stream.specs.Sending.{StopsSending, WroteAll};
 ghost use Rattle.mesosev_stream.specs.Converting.{Converts, IsConverted, Sends};
-ghost use Rattle.mes_frame.specs.Devices.{device_of};
 
 use crate::chunk_size::ChunkSize;
 use crate::exit_status::ExitStatus;
@@ -30,9 +29,9 @@ pub fn convert<I: Source, O: Sink, E: Sink>(
 ) -> ExitStatus
     // The bytes read, the events written, the error printed, and the status.
     ensures { Converts framing limit most
-        (device_of I.left I.counts input.old) (device_of I.left I.counts input.new)
-        (device_of O.written O.counts out.old) (device_of O.written O.counts out.new)
-        (device_of E.written E.counts err.old) (device_of E.written E.counts err.new)
+        (I.device input.old) (I.device input.new)
+        (O.device out.old) (O.device out.new)
+        (E.device err.old) (E.device err.new)
         result }
 {
     let mut events = Vec::new(alloc);
@@ -55,8 +54,8 @@ fn send<O: Sink, E: Sink>(
     err: &mut E,
 ) -> ExitStatus
     ensures { Sends limit most events.now
-        (device_of O.written O.counts out.old) (device_of O.written O.counts out.new)
-        (device_of E.written E.counts err.old) (device_of E.written E.counts err.new)
+        (O.device out.old) (O.device out.new)
+        (E.device err.old) (E.device err.new)
         result }
 {
     match write_events(alloc, events, limit, most, out) {
@@ -77,8 +76,8 @@ fn write_events<O: Sink>(
     out: &mut O,
 ) -> Result<(), SendFault>
     ensures ok { OnOk result ((w : List ℕ) × IsConverted limit most events.now w
-        × WroteAll O.written O.counts out.old out.new w) }
-    ensures err { IfErr result (StopsSending O.written O.counts (IsConverted limit most events.now)
+        × WroteAll O.device out.old out.new w) }
+    ensures err { IfErr result (StopsSending O.device (IsConverted limit most events.now)
         limit events.now out.old out.new) }
 {
     match most {

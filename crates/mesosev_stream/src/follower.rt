@@ -3,7 +3,6 @@
 ghost use Rattle.std.specs.Prelude.{◌≡◌, ◌≤◌, ◌++◌, ℕ, IfErr, IfOk};
 ghost use Rattle.mes_frame.specs.Written.{Stops};
 ghost use Rattle.mes_stream.specs.Stream.{saturated};
-ghost use Rattle.mes_frame.specs.Devices.{device_of};
 ghost use Rattle.mesosev_stream.specs.Following.{HoldsText, PrintsEvents, SendsText, ShowsFrom, ended_of};
 ghost use Rattle.mesosev_stream.specs.Showing.{Follows, lines_from};
 
@@ -68,14 +67,13 @@ pub(crate) struct Follower {
 impl<O: Sink> Consumer<O> for Follower {
     type Stop = FollowStop;
 
-    ghost use Rattle.mes_frame.specs.Devices.{device_of};
     ghost use Rattle.mesosev_stream.specs.Following.{GoesFrom, StopsFrom};
 
-    ghost goes = { λ first out now printed w. GoesFrom first (device_of O.written O.counts out) now
-        (device_of O.written O.counts printed) w };
+    ghost goes = { λ first out now printed w. GoesFrom first (O.device out) now
+        (O.device printed) w };
 
     ghost stops = { λ first out now printed w piece stop. StopsFrom first
-        (device_of O.written O.counts out) now (device_of O.written O.counts printed) w piece
+        (O.device out) now (O.device printed) w piece
         stop };
 
     fn consume(&mut self, piece: &[u8], out: &mut O) -> Result<(), FollowStop> {
@@ -117,9 +115,9 @@ pub fn follow<I: Source, O: Sink>(
 ) -> RunOutcome
     requires { max_reads ≤ MAX_READS }
     // The bytes read, the lines printed and the outcome.
-    ensures { Follows detail framing limit max_reads (device_of I.left I.counts input.old)
-        (device_of I.left I.counts input.new)
-        (device_of O.written O.counts out.old) (device_of O.written O.counts out.new) result }
+    ensures { Follows detail framing limit max_reads (I.device input.old)
+        (I.device input.new)
+        (O.device out.old) (O.device out.new) result }
 {
     let mut follower = Follower {
         detail,
@@ -164,7 +162,7 @@ fn print_events<O: Sink>(
     out: &mut O,
 ) -> Result<PrintProgress, WriteFault>
     ensures { (number : ℕ) → first ≡ saturated number → PrintsEvents detail lines.old lines.new
-        (device_of O.written O.counts out.old) (device_of O.written O.counts out.new)
+        (O.device out.old) (O.device out.new)
         number events.now result }
 {
     match detail {
@@ -182,11 +180,11 @@ fn show_events<O: Sink>(
     out: &mut O,
 ) -> Result<PrintProgress, WriteFault>
     ensures ok { IfOk result (λ shown. (number : ℕ) → first ≡ saturated number → ShowsFrom
-        (SendsText lines.old lines.new (device_of O.written O.counts out.old)
-        (device_of O.written O.counts out.new)) number events.now shown) }
+        (SendsText lines.old lines.new (O.device out.old)
+        (O.device out.new)) number events.now shown) }
     ensures err { IfErr result (λ fault. (number : ℕ) → first ≡ saturated number
-        → Stops (O.written out.old) (O.written out.new)
-        (O.counts out.old) (O.counts out.new) (lines.old.held.items
+        → Stops (O.device out.old).bytes (O.device out.new).bytes
+        (O.device out.old).counts (O.device out.new).counts (lines.old.held.items
         ++ lines_from number events.now) lines.old.sent fault) }
 {
     let shown = match hold_events(events, first, text, lines, out) {
@@ -208,11 +206,11 @@ fn hold_events<O: Sink>(
     out: &mut O,
 ) -> Result<PrintProgress, WriteFault>
     ensures ok { IfOk result (λ shown. (number : ℕ) → first ≡ saturated number → ShowsFrom
-        (HoldsText lines.old lines.new (device_of O.written O.counts out.old)
-        (device_of O.written O.counts out.new)) number events.now shown) }
+        (HoldsText lines.old lines.new (O.device out.old)
+        (O.device out.new)) number events.now shown) }
     ensures err { IfErr result (λ fault. (number : ℕ) → first ≡ saturated number
-        → Stops (O.written out.old) (O.written out.new)
-        (O.counts out.old) (O.counts out.new) (lines.old.held.items
+        → Stops (O.device out.old).bytes (O.device out.new).bytes
+        (O.device out.old).counts (O.device out.new).counts (lines.old.held.items
         ++ lines_from number events.now) lines.old.sent fault) }
 {
     let mut number = first;

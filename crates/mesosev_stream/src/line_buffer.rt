@@ -40,12 +40,12 @@ impl LineBuffer {
     /// Appends lines. If the buffer has no room or an allocation fails, writes the buffered lines
     /// first. Lines larger than the buffer are written directly.
     pub(crate) fn hold<O: Sink>(&mut self, out: &mut O, lines: &[u8]) -> Result<(), WriteFault>
-        ensures ok { OnOk result (Passes (O.written out.old) (O.written out.new) (O.counts out.old)
-            (O.counts out.new)
+        ensures ok { OnOk result (Passes (O.device out.old).bytes (O.device out.new).bytes (O.device out.old).counts
+            (O.device out.new).counts
             (self.old.held.items ++ lines.now) self.new.held.items self.old.sent self.new.sent) }
         ensures most { OnOk result (length self.new.held.items ≤ MAX_LINE_BUFFER) }
-        ensures err { IfErr result (λ fault. Stops (O.written out.old) (O.written out.new)
-            (O.counts out.old) (O.counts out.new)
+        ensures err { IfErr result (λ fault. Stops (O.device out.old).bytes (O.device out.new).bytes
+            (O.device out.old).counts (O.device out.new).counts
             (self.old.held.items ++ lines.now) self.old.sent fault) }
     {
         if self.append(lines) {
@@ -74,12 +74,12 @@ impl LineBuffer {
 
     /// Writes the buffered lines.
     pub(crate) fn flush<O: Sink>(&mut self, out: &mut O) -> Result<(), WriteFault>
-        ensures ok { OnOk result (WentOut (O.written out.old) (O.written out.new) (O.counts out.old)
-            (O.counts out.new)
+        ensures ok { OnOk result (WentOut (O.device out.old).bytes (O.device out.new).bytes (O.device out.old).counts
+            (O.device out.new).counts
             self.old.held.items self.old.sent self.new.sent) }
         ensures ok_held { OnOk result (self.new.held.items ≡ []) }
-        ensures err { IfErr result (λ fault. Stops (O.written out.old) (O.written out.new)
-            (O.counts out.old) (O.counts out.new)
+        ensures err { IfErr result (λ fault. Stops (O.device out.old).bytes (O.device out.new).bytes
+            (O.device out.old).counts (O.device out.new).counts
             self.old.held.items self.old.sent fault) }
     {
         self.sent = write_after(out, self.held.as_slice(), self.sent)?;
@@ -91,14 +91,14 @@ impl LineBuffer {
 /// Writes all of `bytes`, and returns the number of bytes written, including `before` earlier
 /// bytes. An error has that number too.
 fn write_after<O: Sink>(out: &mut O, bytes: &[u8], before: u64) -> Result<u64, WriteFault>
-    ensures ok { OnOk result (Appends (O.written out.old) (O.written out.new) bytes.now) }
-    ensures ok_counts { OnOk result (NoneFails (O.counts out.old) (O.counts out.new)) }
+    ensures ok { OnOk result (Appends (O.device out.old).bytes (O.device out.new).bytes bytes.now) }
+    ensures ok_counts { OnOk result (NoneFails (O.device out.old).counts (O.device out.new).counts) }
     ensures ok_sent { IfOk result (λ all. all ≡ up before (length bytes.now)) }
-    ensures err { IfErr result (λ fault. WrotePart (O.written out.old) (O.written out.new) bytes.now
+    ensures err { IfErr result (λ fault. WrotePart (O.device out.old).bytes (O.device out.new).bytes bytes.now
         before fault.sent) }
     ensures err_counts { IfErr result
-        (λ fault. StopsWrite fault.why (O.counts out.old) (O.counts out.new)) }
-    ensures calls { CallsFor (length bytes.now) (O.counts out.old) (O.counts out.new) }
+        (λ fault. StopsWrite fault.why (O.device out.old).counts (O.device out.new).counts) }
+    ensures calls { CallsFor (length bytes.now) (O.device out.old).counts (O.device out.new).counts }
 {
     match write_all(out, bytes) {
         Ok(()) => Ok(before.saturating_add(bytes.len() as u64)),

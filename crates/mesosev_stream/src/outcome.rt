@@ -1,7 +1,6 @@
 //! The outcome of a run of a subcommand: an exit status, or a failed output.
 
 ghost use Rattle.std.specs.Prelude.{◌≡◌, ◌∷◌, ◌++◌, []};
-ghost use Rattle.mes_frame.specs.Devices.{device_of};
 ghost use Rattle.mesosev_stream.specs.Printing.{Finishes, Tells, ended_after, failed_text};
 
 use crate::exit_status::ExitStatus;
@@ -35,8 +34,8 @@ impl RunOutcome {
 /// and returns `Fault`. Prints nothing if the output is closed: a pipe without a reader.
 pub fn finish<E: Sink>(ended: RunOutcome, closed: bool, err: &mut E) -> ExitStatus
     // The line printed to `err`, if any, and the status.
-    ensures { Finishes closed (device_of E.written E.counts err.old)
-        (device_of E.written E.counts err.new) ended result }
+    ensures { Finishes closed (E.device err.old)
+        (E.device err.new) ended result }
 {
     match ended {
         RunOutcome::Status(status) => status,
@@ -51,7 +50,7 @@ pub fn finish<E: Sink>(ended: RunOutcome, closed: bool, err: &mut E) -> ExitStat
 
 /// Prints that an output failed after `sent` bytes. Errors in writing to `err` are ignored.
 fn tell_failure<E: Sink>(err: &mut E, sent: u64)
-    ensures { Tells (device_of E.written E.counts err.old) (device_of E.written E.counts err.new)
+    ensures { Tells (E.device err.old) (E.device err.new)
         (failed_text sent ++ 10 ∷ []) }
 {
     let why = WriteFaultKind::Device;

@@ -37,15 +37,13 @@ impl<W> Output<W> {
 }
 
 impl<W: Sink> Sink for Output<W> {
-    ghost written = { λ o. W.written o.inner };
-
-    ghost counts = { λ o. W.counts o.inner };
+    ghost device = { λ o. W.device o.inner };
 
     fn put(&mut self, bytes: &[u8]) -> io::Result<usize>
         ensures within { IfOk result (λ n. n ≤ length bytes.now) }
-        ensures bytes { WriteAppends (W.written self.old.inner) (W.written self.new.inner) result
+        ensures bytes { WriteAppends (W.device self.old.inner).bytes (W.device self.new.inner).bytes result
             bytes.now }
-        ensures counted { CountsCall (W.counts self.old.inner) (W.counts self.new.inner)
+        ensures counted { CountsCall (W.device self.old.inner).counts (W.device self.new.inner).counts
             (length bytes.now) result }
         ensures closed { self.new.closed ≡ closed_by self.old.closed result }
     {

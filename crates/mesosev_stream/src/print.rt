@@ -2,7 +2,6 @@
 //! `Result`.
 
 ghost use Rattle.std.specs.Prelude.{◌≡◌, ◌≤◌, [], ◌∷◌, ◌++◌, length};
-ghost use Rattle.mes_frame.specs.Devices.{device_of};
 ghost use Rattle.mes_stream.specs.Lines.{fault_text, count_text};
 ghost use Rattle.mes_stream.specs.SendLines.{send_text};
 ghost use Rattle.mesosev_stream.specs.Printing.{LacksMemory, Prints, PrintsText, outcome_line, outcome_status};
@@ -21,8 +20,8 @@ use mes_stream::{
 /// Errors: the output failed, or wrote 0 bytes, before the last of the bytes.
 pub fn print_bytes<O: Sink>(out: &mut O, bytes: &[u8]) -> Result<(), WriteFault>
     // On success: all bytes were written. On an error: exactly the bytes before the failure.
-    ensures { PrintsText (device_of O.written O.counts out.old)
-        (device_of O.written O.counts out.new) bytes.now result }
+    ensures { PrintsText (O.device out.old)
+        (O.device out.new) bytes.now result }
 {
     write_all(out, bytes)
 }
@@ -32,8 +31,8 @@ pub fn print_bytes<O: Sink>(out: &mut O, bytes: &[u8]) -> Result<(), WriteFault>
 /// Errors: like [`print_bytes`].
 pub fn print_text<O: Sink>(out: &mut O, text: &str) -> Result<(), WriteFault>
     // On success: the text was written. On an error: exactly the bytes before the failure.
-    ensures { PrintsText (device_of O.written O.counts out.old)
-        (device_of O.written O.counts out.new) text.now result }
+    ensures { PrintsText (O.device out.old)
+        (O.device out.new) text.now result }
 {
     print_bytes(out, text.as_bytes())
 }
@@ -44,8 +43,8 @@ pub fn print_text<O: Sink>(out: &mut O, text: &str) -> Result<(), WriteFault>
 pub fn print_line<O: Sink>(out: &mut O, line: &str) -> Result<(), WriteFault>
     requires { length line.now ≤ MAX_FAULT_LINE }
     // On success: the line and LF were written. On an error: exactly the bytes before the failure.
-    ensures { PrintsText (device_of O.written O.counts out.old)
-        (device_of O.written O.counts out.new) (line.now ++ 10 ∷ []) result }
+    ensures { PrintsText (O.device out.old)
+        (O.device out.new) (line.now ++ 10 ∷ []) result }
 {
     let mut text = ArrayString::<MAX_LINE>::new();
     text.push_str(line);
@@ -55,8 +54,8 @@ pub fn print_line<O: Sink>(out: &mut O, line: &str) -> Result<(), WriteFault>
 
 /// Prints the line with the numbers of events and bytes.
 pub(crate) fn print_count<O: Sink>(out: &mut O, events: u64, used: u64) -> Result<(), WriteFault>
-    ensures { PrintsText (device_of O.written O.counts out.old)
-        (device_of O.written O.counts out.new)
+    ensures { PrintsText (O.device out.old)
+        (O.device out.new)
         (count_text events used ++ 10 ∷ []) result }
 {
     let mut line = ArrayString::new();
@@ -69,8 +68,8 @@ pub(crate) fn print_count<O: Sink>(out: &mut O, events: u64, used: u64) -> Resul
 /// Errors: like [`print_bytes`].
 pub fn print_fault<O: Sink>(out: &mut O, fault: &Fault, used: u64) -> Result<(), WriteFault>
     // On success: the line and LF were written. On an error: exactly the bytes before the failure.
-    ensures { PrintsText (device_of O.written O.counts out.old)
-        (device_of O.written O.counts out.new)
+    ensures { PrintsText (O.device out.old)
+        (O.device out.new)
         (fault_text fault.now used ++ 10 ∷ []) result }
 {
     let mut line = ArrayString::new();
@@ -83,8 +82,8 @@ pub fn print_fault<O: Sink>(out: &mut O, fault: &Fault, used: u64) -> Result<(),
 /// Errors: like [`print_bytes`].
 pub fn print_send_fault<O: Sink>(out: &mut O, fault: &SendFault) -> Result<(), WriteFault>
     // On success: the line and LF were written. On an error: exactly the bytes before the failure.
-    ensures { PrintsText (device_of O.written O.counts out.old)
-        (device_of O.written O.counts out.new)
+    ensures { PrintsText (O.device out.old)
+        (O.device out.new)
         (send_text fault.now ++ 10 ∷ []) result }
 {
     let mut line = ArrayString::new();
@@ -100,7 +99,7 @@ pub fn report_outcome<O: Sink>(
     outcome: &Result<Report, Stop>,
 ) -> RunOutcome
     // The line printed, and the outcome.
-    ensures { Prints (device_of O.written O.counts out.old) (device_of O.written O.counts out.new)
+    ensures { Prints (O.device out.old) (O.device out.new)
         (outcome_line events outcome.now ++ 10 ∷ []) (outcome_status outcome.now) result }
 {
     match outcome {
@@ -112,8 +111,8 @@ pub fn report_outcome<O: Sink>(
 /// Prints F13 after 0 bytes: an allocation failed. The status is `Fault`.
 pub fn out_of_memory<O: Sink>(out: &mut O) -> RunOutcome
     // The line printed, and the outcome.
-    ensures { LacksMemory (device_of O.written O.counts out.old)
-        (device_of O.written O.counts out.new) result }
+    ensures { LacksMemory (O.device out.old)
+        (O.device out.new) result }
 {
     ExitStatus::Fault.after(print_fault(out, &Fault::NoMemory, 0))
 }

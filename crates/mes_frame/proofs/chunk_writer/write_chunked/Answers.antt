@@ -16,7 +16,7 @@ pub returns-in_err-write_piece-clause-calls : goal.returns-in_err-write_piece-cl
 returns-in_err-write_piece-clause-calls g c =
     let left = some_left _ c.loop-rest-test.ensures in
     let split = splits _ _ _ _ _ c.requires.least left c.min.ensures c.split_at.ensures.front c.split_at.ensures.back in
-    ended_calls _ _ _ _ _ (g.W.Sink.counts c.write_piece.new.writer) _ (chunk_stops _ _ _ _ _ _ _ _ _ _ _ _ _ _ c.requires.least split c.loop-rest.invariant c.in_err-write_piece.ensures.err)
+    ended_calls _ _ _ _ _ (g.W.Sink.device c.write_piece.new.writer).counts _ (chunk_stops _ _ _ _ _ _ _ _ _ _ _ _ _ _ c.requires.least split c.loop-rest.invariant c.in_err-write_piece.ensures.err)
 
 pub loop-rest-preserved : goal.loop-rest-preserved
 loop-rest-preserved g c =
@@ -33,19 +33,19 @@ returns-in_err-hold-clause-err g c =
 pub returns-in_err-hold-clause-calls : goal.returns-in_err-hold-clause-calls
 returns-in_err-hold-clause-calls g c =
     let none = none_left _ c.loop-rest-test.ensures in
-    ended_calls _ _ _ _ _ (g.W.Sink.counts c.hold.new.writer) _ (last_stops _ _ _ _ _ _ _ _ _ _ _ _ none c.loop-rest.invariant c.in_err-hold.ensures.err)
+    ended_calls _ _ _ _ _ (g.W.Sink.device c.hold.new.writer).counts _ (last_stops _ _ _ _ _ _ _ _ _ _ _ _ none c.loop-rest.invariant c.in_err-hold.ensures.err)
 
 pub returns-clause-ok : goal.returns-clause-ok
 returns-clause-ok g c =
     let none = none_left _ c.loop-rest-test.ensures in
-    ended_ok _ _ _ _ (g.W.Sink.counts c.args.writer.now) (g.W.Sink.counts c.flush.new.writer) _ (flush_ends _ _ _ _ _ _ _ _ _ _ _ _ _ _ _ _ c.flush.result none c.loop-rest.invariant c.in_ok-hold.ensures.ok c.flush.ensures.ok c.flush.ensures.err)
+    ended_ok _ _ _ _ (g.W.Sink.device c.args.writer.now).counts (g.W.Sink.device c.flush.new.writer).counts _ (flush_ends _ _ _ _ _ _ _ _ _ _ _ _ _ _ _ _ c.flush.result none c.loop-rest.invariant c.in_ok-hold.ensures.ok c.flush.ensures.ok c.flush.ensures.err)
 
 pub returns-clause-err : goal.returns-clause-err
 returns-clause-err g c =
     let none = none_left _ c.loop-rest-test.ensures in
-    ended_err _ _ _ _ (g.W.Sink.counts c.args.writer.now) (g.W.Sink.counts c.flush.new.writer) _ (flush_ends _ _ _ _ _ _ _ _ _ _ _ _ _ _ _ _ c.flush.result none c.loop-rest.invariant c.in_ok-hold.ensures.ok c.flush.ensures.ok c.flush.ensures.err)
+    ended_err _ _ _ _ (g.W.Sink.device c.args.writer.now).counts (g.W.Sink.device c.flush.new.writer).counts _ (flush_ends _ _ _ _ _ _ _ _ _ _ _ _ _ _ _ _ c.flush.result none c.loop-rest.invariant c.in_ok-hold.ensures.ok c.flush.ensures.ok c.flush.ensures.err)
 
 pub returns-clause-calls : goal.returns-clause-calls
 returns-clause-calls g c =
     let none = none_left _ c.loop-rest-test.ensures in
-    ended_calls _ _ _ _ _ (g.W.Sink.counts c.flush.new.writer) _ (flush_ends _ _ _ _ _ _ _ _ _ _ _ _ _ _ _ _ c.flush.result none c.loop-rest.invariant c.in_ok-hold.ensures.ok c.flush.ensures.ok c.flush.ensures.err)
+    ended_calls _ _ _ _ _ (g.W.Sink.device c.flush.new.writer).counts _ (flush_ends _ _ _ _ _ _ _ _ _ _ _ _ _ _ _ _ c.flush.result none c.loop-rest.invariant c.in_ok-hold.ensures.ok c.flush.ensures.ok c.flush.ensures.err)

@@ -6,4 +6,4 @@ use Rattle.mes_stream.specs.declared.limits.TheConstants.{MAX_READ}
 abbrev pub invariant-reads : goal.invariant-reads
 invariant-reads g l =
     (length l.buffer ≡ MAX_READ)
-    × Reads (g.C.Consumer.goes l.fn.consumer l.fn.to l.consumer l.to) (g.S.Source.left l.fn.source) (g.S.Source.left l.source) (g.S.Source.counts l.fn.source) (g.S.Source.counts l.source) l.counter
+    × Reads (g.C.Consumer.goes l.fn.consumer l.fn.to l.consumer l.to) (g.S.Source.device l.fn.source).bytes (g.S.Source.device l.source).bytes (g.S.Source.device l.fn.source).counts (g.S.Source.device l.source).counts l.counter

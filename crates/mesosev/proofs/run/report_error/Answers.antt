@@ -1,13 +1,13 @@
 use Rattle.std.proofs.Common.{◌≡◌, true, inl, inr, refl}
-use Rattle.mes_frame.specs.Devices.{Device, device_of}
+use Rattle.mes_frame.specs.Devices.{Device}
 use Rattle.mesosev_stream.specs.declared.exit_status.ExitStatus.TheVariants as exit
 use Rattle.mesosev_stream.proofs.PrintLemmas.{prints_meant}
 use Rattle.mesosev.proofs.run.report_error.Goals as goal
 
 pub returns-then-use_stderr : goal.returns-then-use_stderr
 returns-then-use_stderr g c =
-    let old : Device = device_of g.E.Sink.written g.E.Sink.counts c.args.err.now in
-    let new : Device = device_of g.E.Sink.written g.E.Sink.counts c.print_text.new.out in
+    let old : Device = g.E.Sink.device c.args.err.now in
+    let new : Device = g.E.Sink.device c.print_text.new.out in
     inl (
       c.as_str.result.now,
       inl (c.use_stderr.ensures.0 c.if-use_stderr.true, prints_meant old new _ exit.Usage _ _ c.print_text.ensures c.after.ensures, refl),
@@ -15,8 +15,8 @@ returns-then-use_stderr g c =
 
 pub returns : goal.returns
 returns g c =
-    let old : Device = device_of g.O.Sink.written g.O.Sink.counts c.args.out.now in
-    let new : Device = device_of g.O.Sink.written g.O.Sink.counts c.print_text-else-use_stderr.new.out in
+    let old : Device = g.O.Sink.device c.args.out.now in
+    let new : Device = g.O.Sink.device c.print_text-else-use_stderr.new.out in
     inl (
       c.as_str-else-use_stderr.result.now,
       inr (

@@ -1,9 +1,8 @@
-use Rattle.mes_frame.specs.Devices.{device_of}
 use Rattle.mesosev.proofs.run.run.Goals as goal
 
 pub returns-clause-runs : goal.returns-clause-runs
-returns-clause-runs g c = (device_of g.E.Sink.written g.E.Sink.counts c.run_args-ended.new.err, c.run_args-ended.result, c.run_args-ended.ensures.runs, rw c.is_closed.ensures at c.finish.ensures)
+returns-clause-runs g c = (g.E.Sink.device c.run_args-ended.new.err, c.run_args-ended.result, c.run_args-ended.ensures.runs, rw c.is_closed.ensures at c.finish.ensures)
 
 pub returns-clause-plain : goal.returns-clause-plain
 returns-clause-plain g c = λ said plainly range.
-    (device_of g.E.Sink.written g.E.Sink.counts c.run_args-ended.new.err, c.run_args-ended.result, c.run_args-ended.ensures.plain said plainly range, rw c.is_closed.ensures at c.finish.ensures)
+    (g.E.Sink.device c.run_args-ended.new.err, c.run_args-ended.result, c.run_args-ended.ensures.plain said plainly range, rw c.is_closed.ensures at c.finish.ensures)

@@ -9,6 +9,6 @@ use Rattle.mesosev.proofs.run.tell.Goals as goal
 pub returns-in-Ok : goal.returns-in-Ok
 returns-in-Ok g c =
     let line : c.as_str.result.now ≡ bad_value_line c.in-BadValue.name.now = c.as_str.ensures.value ∙ c.in-Ok.ensures.ok in
-    let old : Device = record { bytes = g.E.Sink.written c.args.err.now; counts = g.E.Sink.counts c.args.err.now } in
-    let new : Device = record { bytes = g.E.Sink.written c.print_text.new.out; counts = g.E.Sink.counts c.print_text.new.out } in
+    let old : Device = record { bytes = (g.E.Sink.device c.args.err.now).bytes; counts = (g.E.Sink.device c.args.err.now).counts } in
+    let new : Device = record { bytes = (g.E.Sink.device c.print_text.new.out).bytes; counts = (g.E.Sink.device c.print_text.new.out).counts } in
     rw c.in-BadValue.is (inl (prints_line old new c.as_str.result.now (bad_value_line c.in-BadValue.name.now) exit.Usage c.after.result line (prints_meant old new c.as_str.result.now exit.Usage _ _ c.print_text.ensures c.after.ensures), refl))

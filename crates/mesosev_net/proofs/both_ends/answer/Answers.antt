@@ -1,5 +1,4 @@
 use Rattle.std.proofs.Common.{◌∙◌, sym}
-use Rattle.mes_frame.specs.Devices.{device_of}
 use Rattle.mesosev_net.proofs.LoopLemmas.{answered, unanswered}
 use Rattle.mesosev_net.proofs.both_ends.answer.Goals as goal
 

@@ -1,6 +1,6 @@
 use Rattle.std.proofs.Common.{inl, inr}
 use Rattle.mesosev_net.specs.Subscribed.{Subscribes}
-use Rattle.mes_frame.specs.Devices.{Device, device_of}
+use Rattle.mes_frame.specs.Devices.{Device}
 use Rattle.mesosev_stream.specs.declared.exit_status.ExitStatus.TheVariants as exit
 use Rattle.mesosev_stream.proofs.PrintLemmas.{prints_meant}
 use Rattle.mesosev_net.proofs.LoopLemmas.{same_framework, subscribed_some}
@@ -13,8 +13,8 @@ returns-in_default g c = inl c.out_of_memory.ensures
 pub returns-in_default-connect : goal.returns-in_default-connect
 unfolding Subscribes
 returns-in_default-connect g c =
-    let out : Device = device_of g.O.Sink.written g.O.Sink.counts c.args.out.now in
-    let printed : Device = device_of g.O.Sink.written g.O.Sink.counts c.print_text.new.out in
+    let out : Device = g.O.Sink.device c.args.out.now in
+    let printed : Device = g.O.Sink.device c.print_text.new.out in
     inr (inl (prints_meant out printed _ exit.Fault _ _ c.print_text.ensures c.after.ensures))
 
 pub returns : goal.returns

@@ -1,11 +1,10 @@
 use Rattle.std.proofs.Common.{◌∙◌, arith}
-use Rattle.mes_frame.specs.Devices.{device_of}
 use Rattle.mesosev_stream.proofs.HoldLemmas.{holds_none, holds_more, holds_not, holds_all}
 use Rattle.mesosev_stream.proofs.ShowLemmas.{events_at}
 use Rattle.mesosev_stream.proofs.follower.hold_events.Goals as goal
 
 pub loop-event-init : goal.loop-event-init
-loop-event-init g c = λ n is. (holds_none c.args.lines.now (device_of g.O.Sink.written g.O.Sink.counts c.args.out.now), omega (arith, is))
+loop-event-init g c = λ n is. (holds_none c.args.lines.now (g.O.Sink.device c.args.out.now), omega (arith, is))
 
 pub returns-in-Err-clause-ok : goal.returns-in-Err-clause-ok
 returns-in-Err-clause-ok g c = λ n is.
@@ -13,13 +12,13 @@ returns-in-Err-clause-ok g c = λ n is.
 
 pub returns-in-Err-hold-clause-err : goal.returns-in-Err-hold-clause-err
 returns-in-Err-hold-clause-err g c = λ n is. let before = c.loop-event.invariant n is in
-    holds_not c.args.lines.now c.loop-event.lines (device_of g.O.Sink.written g.O.Sink.counts c.args.out.now) (device_of g.O.Sink.written g.O.Sink.counts c.loop-event.out) (device_of g.O.Sink.written g.O.Sink.counts c.hold.new.out)
+    holds_not c.args.lines.now c.loop-event.lines (g.O.Sink.device c.args.out.now) (g.O.Sink.device c.loop-event.out) (g.O.Sink.device c.hold.new.out)
     c.args.events.now c.event-item.result c.loop-event.event-index n c.loop-event.number c.in-Err-hold.fault c.loop-event-test.true c.event-item.is before.1 before.0
     (rw (c.as_slice.ensures.value ∙ c.in_default.ensures, c.clear.ensures.items) at c.in-Err-hold.ensures.err)
 
 pub loop-event-preserved : goal.loop-event-preserved
 loop-event-preserved g c = λ n is. let before = c.loop-event.invariant n is in (
-  holds_more c.args.lines.now c.loop-event.lines c.hold.new.self (device_of g.O.Sink.written g.O.Sink.counts c.args.out.now) (device_of g.O.Sink.written g.O.Sink.counts c.loop-event.out) (device_of g.O.Sink.written g.O.Sink.counts c.hold.new.out)
+  holds_more c.args.lines.now c.loop-event.lines c.hold.new.self (g.O.Sink.device c.args.out.now) (g.O.Sink.device c.loop-event.out) (g.O.Sink.device c.hold.new.out)
       c.args.events.now c.event-item.result c.loop-event.event-index n c.loop-event.number c.loop-event-test.true c.event-item.is before.1 before.0
       (rw (c.as_slice.ensures.value ∙ c.in_default.ensures, c.clear.ensures.items) at c.in_default-hold.ensures.ok),
   omega (arith, c.saturating_add-number.ensures, before.1),
@@ -27,5 +26,5 @@ loop-event-preserved g c = λ n is. let before = c.loop-event.invariant n is in 
 
 pub returns-clause-ok : goal.returns-clause-ok
 returns-clause-ok g c = λ n is. let before = c.loop-event.invariant n is in
-    holds_all c.args.lines.now c.loop-event.lines (device_of g.O.Sink.written g.O.Sink.counts c.args.out.now) (device_of g.O.Sink.written g.O.Sink.counts c.loop-event.out) c.args.events.now c.loop-event.event-index n c.loop-event.number
+    holds_all c.args.lines.now c.loop-event.lines (g.O.Sink.device c.args.out.now) (g.O.Sink.device c.loop-event.out) c.args.events.now c.loop-event.event-index n c.loop-event.number
     (omega arith) (omega arith) before.1 before.0

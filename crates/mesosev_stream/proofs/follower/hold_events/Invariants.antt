@@ -1,6 +1,5 @@
 use Rattle.std.proofs.Common.{◌≡◌, ◌+◌, ℕ, take}
 use Rattle.mes_stream.specs.Stream.{saturated}
-use Rattle.mes_frame.specs.Devices.{device_of}
 use Rattle.mesosev_stream.specs.Following.{HoldsText}
 use Rattle.mesosev_stream.specs.Showing.{lines_from}
 use Rattle.mesosev_stream.proofs.follower.hold_events.Given as goal
@@ -9,6 +8,6 @@ use Rattle.mesosev_stream.proofs.follower.hold_events.Given as goal
 abbrev pub invariant-loop-event : goal.invariant-loop-event
 invariant-loop-event g l =
     (n : ℕ) → l.first ≡ saturated n
-    → HoldsText l.fn.lines l.lines (device_of g.O.Sink.written g.O.Sink.counts l.fn.out) (device_of g.O.Sink.written g.O.Sink.counts l.out)
+    → HoldsText l.fn.lines l.lines (g.O.Sink.device l.fn.out) (g.O.Sink.device l.out)
     (lines_from n (take l.event-index l.events))
     × (l.number ≡ saturated (n + l.event-index))

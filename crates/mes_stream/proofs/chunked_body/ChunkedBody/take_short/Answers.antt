@@ -32,7 +32,7 @@ returns-in-Err-clause-reports g c = λ ahead w values s.
     let length_is = ap (λ (l : List ℕ). length l) value in
     let some : 0 < length made.bytes.items = grind (arith, c.if-is_empty.ensures, c.is_empty.ensures, c.if-is_empty.false) in
     let inside : k < length made.bytes.items = omega (arith, length_is, some, c.in-Err.ensures.err (omega (arith, length_is, some))) in
-    let starved = subst (λ (l : List ℕ). g.R.RecordReader.breaks (s.body.r ++ take k l) refusal.NoMemory) value (c.in-Err.ensures.before s.body.r s.body.kept) in
+    let starved = subst (λ (l : List ℕ). g.R.RecordReader.breaks (s.body.r ++ take (k + 1) l) refusal.NoMemory) value (c.in-Err.ensures.begins s.body.r s.body.kept) in
     let back : slice_index made.places.items k ≡ slice_index c.as_slice-in-Err.result.now k + 1 - 1 = omega (arith, ap (λ (l : List ℕ). slice_index l k) c.as_slice-in-Err.ensures.value) in
     rw (c.no_memory.ensures.fault, c.no_memory.ensures.used, c.pass.ensures.limit)
     (gathered_stops g.R.RecordReader.holds g.R.RecordReader.spells ahead c.args.self.now g.R.RecordReader.breaks c.gather_short_chunks-gathered.new.chunks w c.args.rest.now made.bytes.items made.places.items values made.used k _ s

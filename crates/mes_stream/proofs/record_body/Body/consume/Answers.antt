@@ -1,14 +1,13 @@
-use Rattle.std.proofs.Common.{◌≡◌, ℕ, ◌+◌, ◌-◌, List, ◌++◌, take, ap, arith, refl, inl, inr, subst, length-take-le, ◌∙◌}
+use Rattle.std.proofs.Common.{◌≡◌, ℕ, ◌+◌, ◌-◌, List, [], ◌∷◌, ◌++◌, take, ap, arith, refl, inr, subst, length-take-le, ◌∙◌}
 use Rattle.std.specs.Prelude.{slice_index}
 use Rattle.mes_frame.specs.RecordState.{limit_of}
 use Rattle.mes_frame.specs.declared.record.RecordState.{RecordState}
 use Rattle.mes_stream.specs.Framings.{SaysIn}
-use Rattle.mes_stream.specs.Stream.{MayFail}
 use Rattle.mes_stream.specs.Taking.{BodyRepresents, record_answer}
 use Rattle.mes_stream.specs.declared.record_body.Body.{Body}
 use Rattle.mes_stream.specs.declared.record_error.RecordError.TheVariants as refusal
 use Rattle.mes_stream.specs.declared.stream_reader.Framing.TheVariants.{Plain}
-use Rattle.mes_stream.proofs.BodyLemmas.{take_take, data_live, data_next, size_live, stands_on, ends_as, whole_fits}
+use Rattle.mes_stream.proofs.BodyLemmas.{take_take, one_more, data_live, data_next, size_live, stands_on, ends_as, whole_fits}
 use Rattle.mes_stream.proofs.record_body.Body.consume.Goals as goal
 use Rattle.mes_stream.proofs.record_body.Body.consume.Goals.{then-last, else-last}
 
@@ -29,12 +28,14 @@ returns-in-Err-clause-reports g c = λ ahead b values s.
     let size = length-take-le c.in-Data.count c.args.run.now within.1 in
     let inside = c.in-Err.ensures.err (omega (arith, within, size)) in
     let limit = c.in-Data.ensures.limit in
-    let phase : c.in-Err.refused.taken ≡ c.in-Err.refused.taken + 1 - 1 = omega arith in
-    let same : take c.in-Err.refused.taken (take c.in-Data.count c.args.run.now) ≡ take (c.in-Err.refused.taken + 1 - 1) c.args.run.now =
-    take_take c.in-Err.refused.taken c.in-Data.count c.args.run.now (omega (arith, inside, size)) ∙ ap (λ (n : ℕ). take n c.args.run.now) phase in
-    let starved = subst (λ (y : List ℕ). g.R.RecordReader.breaks (s.r ++ y) refusal.NoMemory) same (c.in-Err.ensures.before s.r s.kept) in
-    let next = data_next g.R.RecordReader.holds g.R.RecordReader.spells ahead c.args.self.now b c.args.run.now values (c.in-Err.refused.taken + 1 - 1) h.0.0 s (MayFail g.R.RecordReader.breaks (slice_index c.args.run.now (c.in-Err.refused.taken + 1 - 1)))
-    (omega (arith, inside, h.0.2, size)) (omega (arith, inside, within, size)) (rw limit at h.0.1) (inl starved) in
+    let n : ℕ = c.in-Err.refused.taken + 1 - 1 in
+    let phase : c.in-Err.refused.taken + 1 ≡ n + 1 = omega arith in
+    let same : s.r ++ take (c.in-Err.refused.taken + 1) (take c.in-Data.count c.args.run.now) ≡ (s.r ++ take n c.args.run.now) ++ slice_index c.args.run.now n ∷ [] =
+    ap (λ (y : List ℕ). s.r ++ y) (take_take (c.in-Err.refused.taken + 1) c.in-Data.count c.args.run.now (omega (arith, inside, size)) ∙ ap (λ (m : ℕ). take m c.args.run.now) phase)
+    ∙ one_more s.r c.args.run.now n (omega (arith, inside, within, size)) in
+    let starved = subst (λ (y : List ℕ). g.R.RecordReader.breaks y refusal.NoMemory) same (c.in-Err.ensures.begins s.r s.kept) in
+    let next = data_next g.R.RecordReader.holds g.R.RecordReader.spells ahead c.args.self.now b c.args.run.now values n h.0.0 s (λ r. g.R.RecordReader.breaks (r ++ slice_index c.args.run.now n ∷ []) refusal.NoMemory)
+    (omega (arith, inside, h.0.2, size)) (omega (arith, inside, within, size)) (rw limit at h.0.1) starved in
     rw (c.no_memory.ensures.fault, c.no_memory.ensures.used) (inr (refl, rw limit next))
 
 pub returns-in-Err-clause-before : goal.returns-in-Err-clause-before
