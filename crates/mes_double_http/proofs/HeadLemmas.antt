@@ -105,7 +105,7 @@ request-whole taken b h rest none (valid, is) = by_length (length rest) refl
         sym (take-append_seam taken (b ∷ [])) ∙ ap (take (length taken)) is ∙ ap (λ n. take n (print_request h ++ rest)) len ∙ take-append-add (print_request h) rest k in
         absurd (none h (take k rest) (valid, front))
 
-request-lines : (n : ℕ) (taken : List ℕ) → RequestExceeds n taken → n < field_lines taken
+pub request-lines : (n : ℕ) (taken : List ℕ) → RequestExceeds n taken → n < field_lines taken
 request-lines n taken (front, rest, split, h, (valid, is), over) =
     let whole : lines (front ++ 10 ∷ []) ≡ length h.fields + 2 = ap lines (is ∙ append-nil (print_request h)) ∙ lines_request h valid in
     omega (arith, whole, lines_push front 10, feeds_one 10, lines-append front rest, ap lines split, over)

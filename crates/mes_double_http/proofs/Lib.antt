@@ -1,5 +1,6 @@
 pub mod BodyLemmas
 pub mod FieldLemmas
+pub mod FirstLemmas
 pub mod HeadLemmas
 pub mod LengthLemmas
 pub mod LineLemmas
@@ -7,6 +8,7 @@ pub mod LineSteps
 pub mod Nothing
 pub mod Phrases
 pub mod PushLemmas
+pub mod ReceivedLemmas
 pub mod SpaceLemmas
 pub mod StreamIdLemmas
 pub mod TargetLemmas

@@ -1,5 +1,5 @@
 -- The number of complete lines in the first bytes of a head.
-use Rattle.std.proofs.Common.{◌≡◌, ◌≢◌, ℕ, ◌+◌, ◌≤◌, Bool, true, false, List, [], ◌∷◌, ◌++◌, length, codes, count_by, All, ◌==◌, if◌then◌else◌, Option, Some, None, refl, sym, ap, ◌∙◌, subst, arith, append-nil}
+use Rattle.std.proofs.Common.{◌≡◌, ◌≢◌, ℕ, ◌+◌, ◌<◌, ◌≤◌, Bool, true, false, List, [], ◌∷◌, ◌++◌, length, codes, count_by, All, ◌==◌, if◌then◌else◌, Option, Some, None, refl, sym, ap, ◌∙◌, subst, arith, append-nil}
 use Rattle.std.proofs.lemmas.Bool.{false≢true, ne_eqb}
 use Rattle.std.proofs.lemmas.List.Sums.{sum_by-cons, sum_by-append}
 use Rattle.std.proofs.lemmas.List.Elements.{All-head, All-tail}
@@ -176,6 +176,16 @@ push_first false y = omega arith
 pub lines_push : (xs : List ℕ) (y : ℕ) → lines (xs ++ y ∷ []) ≤ lines xs + feeds (y ∷ [])
 lines_push [] y = omega (arith, push_first (is_newline y) y, feeds_none_yet)
 lines_push (b ∷ xs) y = push_step (is_newline b) b xs y (lines_push xs y)
+
+-- a line feed completes exactly one line, once a line is complete
+feed_step : (t : Bool) (b : ℕ) (xs : List ℕ) → (0 < lines xs → lines (xs ++ 10 ∷ []) ≡ lines xs + 1) → 0 < feeds (if t then from_start_line xs else b ∷ xs)
+    → feeds (if t then from_start_line (xs ++ 10 ∷ []) else b ∷ (xs ++ 10 ∷ [])) ≡ feeds (if t then from_start_line xs else b ∷ xs) + 1
+feed_step true b xs rest some = rest some
+feed_step false b xs rest some = feeds-append (b ∷ xs) (10 ∷ [])
+
+pub lines_feed : (xs : List ℕ) → 0 < lines xs → lines (xs ++ 10 ∷ []) ≡ lines xs + 1
+lines_feed [] some = absurd (omega (arith, some, feeds_none_yet))
+lines_feed (b ∷ xs) some = feed_step (is_newline b) b xs (lines_feed xs) some
 
 pub feeds_one : (y : ℕ) → feeds (y ∷ []) ≤ 1
 feeds_one y = omega (arith, feeds_step y [], feeds_none_yet, one_if_most (y == 10))

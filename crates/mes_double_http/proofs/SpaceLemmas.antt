@@ -3,7 +3,7 @@ use Rattle.std.proofs.Common.{◌≡◌, ℕ, ◌+◌, ◌-◌, ◌<◌, ◌≤�
 use Rattle.std.specs.List.{position_or_len}
 use Rattle.std.proofs.lemmas.Bool.{eqb-true}
 use Rattle.std.proofs.lemmas.Bool.Decides.{nat_tests}
-use Rattle.std.proofs.lemmas.List.{take_all, drop_more}
+use Rattle.std.proofs.lemmas.List.{take_all, take_more, drop_more}
 use Rattle.std.proofs.lemmas.List.Quantifiers.{position-Some}
 use Rattle.std.proofs.lemmas.List.Elements.{All-nil, All-cons, All-from_get_or}
 use Rattle.httparse.specs.Grammar.{AllPass}
@@ -24,6 +24,11 @@ space_splits xs i at =
     let first = position-Some is_space xs i 0 at in
     sym (take-append-drop i xs) ∙ ap (λ (t : List ℕ). take i xs ++ t) (drop_more xs i 0 first.0)
     ∙ ap (λ (b : ℕ). take i xs ++ b ∷ drop (i + 1) xs) (eqb-true (get_or xs i 0) 32 first.1)
+
+pub space_start : (xs : List ℕ) (i : ℕ) → position is_space xs ≡ Some i → take (i + 1) xs ≡ take i xs ++ 32 ∷ []
+space_start xs i at =
+    let first = position-Some is_space xs i 0 at in
+    take_more xs i 0 first.0 ∙ ap (λ (b : ℕ). take i xs ++ b ∷ []) (eqb-true (get_or xs i 0) 32 first.1)
 
 pub space_rest : (xs : List ℕ) (i : ℕ) → position is_space xs ≡ Some i → xs ≡ take i xs ++ 32 ∷ take (length xs - (i + 1)) (drop (i + 1) xs)
 space_rest xs i at =

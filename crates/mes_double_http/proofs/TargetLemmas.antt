@@ -69,7 +69,7 @@ target_goes_on front taken b more (inr (blank, method, target, token, visible, i
 
 -- ---- EndsInTarget implies IsInTarget, if no request can begin with the bytes
 
-some_target : (blank : List LineEnd) (method taken : List ℕ) → IsToken method → taken ≡ print_blank blank ++ method ++ 32 ∷ [] → NeverHasRequest taken → ⊥
+pub some_target : (blank : List LineEnd) (method taken : List ℕ) → IsToken method → taken ≡ print_blank blank ++ method ++ 32 ∷ [] → NeverHasRequest taken → ⊥
 some_target blank method taken token is never =
     let h : RequestHead = record { blank = blank; method = method; target = codes "/"; minor = 1; line_end = lf; fields = []; last = lf } in
     let more = codes "/" ++ 32 ∷ (print_version 1 ++ (print_end lf ++ (print_section [] lf ++ []))) in
@@ -106,3 +106,38 @@ target_split taken front rest is unspaced t =
 
 pub target_spaced : (taken : List ℕ) → AllPass is_no_space taken → IsInTarget taken → ⊥
 target_spaced taken unspaced t = run_unstopped is_no_space t.front (32 ∷ t.target) (subst (AllPass is_no_space) t.is unspaced) refl
+
+-- ---- bytes that end in a target, from the bytes up to the first space
+
+pub start_goes_on : (front rest start taken : List ℕ) → start ≡ front ++ 32 ∷ [] → taken ≡ front ++ 32 ∷ rest → AllPass is_no_space front
+    → AllPass is_uri_byte rest → MayBecomeRequest start → EndsInTarget taken
+start_goes_on front rest start taken start_is is unspaced visible (inl (more, h, (valid, reads))) =
+    let after = h.target ++ 32 ∷ (print_version h.minor ++ (print_end h.line_end ++ (print_section h.fields h.last ++ []))) in
+    let printed : front ++ 32 ∷ more ≡ (print_blank h.blank ++ h.method) ++ 32 ∷ after =
+    sym (append_assoc front (32 ∷ []) more) ∙ ap (λ (s : List ℕ). s ++ more) (sym start_is) ∙ reads ∙ print_request-append h []
+    ∙ sym (append_assoc (print_blank h.blank) h.method (32 ∷ after)) in
+    let same = same_before front (print_blank h.blank ++ h.method) more after unspaced (before_unspaced h.blank h.method valid.method) printed in
+    (h.blank, h.method, rest, valid.method, visible, is ∙ ap (λ (a : List ℕ). a ++ 32 ∷ rest) same)
+start_goes_on front rest start taken start_is is unspaced visible (inr (blank, method, target, token, text, ends)) =
+    let same = same_before front (print_blank blank ++ method) [] target unspaced (before_unspaced blank method token) (sym start_is ∙ ends) in
+    (blank, method, rest, token, visible, is ∙ ap (λ (a : List ℕ). a ++ 32 ∷ rest) same)
+
+-- the bytes up to the first space, if the bytes end in the target
+pub start_of_target : (front rest start taken : List ℕ) → start ≡ front ++ 32 ∷ [] → taken ≡ front ++ 32 ∷ rest → AllPass is_no_space front
+    → EndsInTarget taken → (blank : List LineEnd) × (method : List ℕ) × IsToken method × (start ≡ print_blank blank ++ method ++ 32 ∷ [])
+start_of_target front rest start taken start_is is unspaced (blank, method, target, token, text, ends) =
+    let same = same_before front (print_blank blank ++ method) rest target unspaced (before_unspaced blank method token) (sym is ∙ ends) in
+    (blank, method, token, start_is ∙ ap (λ (a : List ℕ). a ++ 32 ∷ []) same)
+
+pub start_fails : (front rest start taken : List ℕ) → start ≡ front ++ 32 ∷ [] → taken ≡ front ++ 32 ∷ rest → AllPass is_no_space front
+    → NeverHasRequest start → EndsInTarget taken → ⊥
+start_fails front rest start taken start_is is unspaced never ends =
+    let begins = start_of_target front rest start taken start_is is unspaced ends in
+    some_target begins.0 begins.1 start begins.2 begins.3 never
+
+-- the bytes up to the first space have no complete field line
+pub start_lines : (front rest start taken : List ℕ) → start ≡ front ++ 32 ∷ [] → taken ≡ front ++ 32 ∷ rest → AllPass is_no_space front
+    → EndsInTarget taken → field_lines start ≡ 0
+start_lines front rest start taken start_is is unspaced ends =
+    let begins = start_of_target front rest start taken start_is is unspaced ends in
+    target_lines start (begins.0, begins.1, [], begins.2, All-nil (λ (b : ℕ). is_uri_byte b ≡ true), begins.3)

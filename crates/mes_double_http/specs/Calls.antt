@@ -2,7 +2,7 @@
 use Rattle.std.specs.Prelude.{◌≡◌, ℕ, ◌<◌, List, ◌++◌, Option, length, take}
 use Rattle.std.specs.Io.KnownBytes.{Appends}
 use Rattle.mes_frame.specs.Write.{NoneFails, CallsFor, StopsWrite}
-use Rattle.mes_frame.specs.declared.counts.Counts.{Counts}
+use Rattle.mes_frame.specs.Devices.{Device}
 use Rattle.mes_msg.specs.Calls.{call}
 use Rattle.mes_msg.specs.Texts.{canonical_of, Fits, IsRefusalOf}
 use Rattle.mes_msg.specs.Call.{Call}
@@ -41,17 +41,17 @@ IsUnmade c NoMemory = Unit {0}
 IsUnmade c (Write fault) = ⊥
 
 -- the text of the call fits a body, and the whole request is written
-pub record WroteCall {W : Type 0} (written : W → Option (List ℕ)) (counts : W → Counts) (host : List ℕ) (stream : Option (List ℕ)) (c : Call) (old new : W) : Type 0 where
+pub record WroteCall {W : Type 0} (device : W → Device) (host : List ℕ) (stream : Option (List ℕ)) (c : Call) (old new : W) : Type 0 where
   pub good : IsGoodCall c
-  pub out : Appends (written old) (written new) (call_bytes host stream c)
-  pub none_fails : NoneFails (counts old) (counts new)
-  pub calls : CallsFor (length (call_bytes host stream c)) (counts old) (counts new)
+  pub out : Appends (device old).bytes (device new).bytes (call_bytes host stream c)
+  pub none_fails : NoneFails (device old).counts (device new).counts
+  pub calls : CallsFor (length (call_bytes host stream c)) (device old).counts (device new).counts
 
 -- the call does not fit a body or memory ran out, and nothing was written; or the writer stopped
-abbrev pub StopsCall : {W : Type 0} → (W → Option (List ℕ)) → (W → Counts) → List ℕ → Option (List ℕ) → Call → W → W → SendFault → Type 0
-StopsCall written counts host stream c old new (Encode index why) = (index ≡ 0) × IsBadCall c why × (new ≡ old)
-StopsCall written counts host stream c old new NoMemory = new ≡ old
-StopsCall written counts host stream c old new (Write fault) = IsGoodCall c
+abbrev pub StopsCall : {W : Type 0} → (W → Device) → List ℕ → Option (List ℕ) → Call → W → W → SendFault → Type 0
+StopsCall device host stream c old new (Encode index why) = (index ≡ 0) × IsBadCall c why × (new ≡ old)
+StopsCall device host stream c old new NoMemory = new ≡ old
+StopsCall device host stream c old new (Write fault) = IsGoodCall c
     × (fault.sent < length (call_bytes host stream c))
-    × Appends (written old) (written new) (take fault.sent (call_bytes host stream c))
-    × StopsWrite fault.why (counts old) (counts new) × CallsFor (length (call_bytes host stream c)) (counts old) (counts new)
+    × Appends (device old).bytes (device new).bytes (take fault.sent (call_bytes host stream c))
+    × StopsWrite fault.why (device old).counts (device new).counts × CallsFor (length (call_bytes host stream c)) (device old).counts (device new).counts

@@ -1,5 +1,5 @@
--- The printed form of a `HeadFault`, such as `H4 Status 403`.
-use Rattle.std.specs.Prelude.{List, ℕ, [], ◌++◌, codes, decimal}
+-- The printed form of a `HeadFault`, such as `H4 Status 403`, and a master's response to it.
+use Rattle.std.specs.Prelude.{List, ℕ, [], ◌++◌, codes, decimal, Option, None, Some}
 use Rattle.mes_double_http.specs.declared.fault.HeadFault.{HeadFault}
 use Rattle.mes_double_http.specs.declared.fault.HeadFault.TheVariants as fault
 
@@ -26,3 +26,13 @@ head_fault_details _ = []
 
 abbrev pub head_fault_text : HeadFault → List ℕ
 head_fault_text f = head_fault_title f ++ head_fault_details f
+
+-- the status of the response to a request that is refused so (RFC 9110 section 15.5): 404 Not
+-- Found, 405 Method Not Allowed, 400 Bad Request; none if the connection or the memory failed
+abbrev pub response_status : HeadFault → Option ℕ
+response_status fault.WrongPath = Some 404
+response_status fault.WrongMethod = Some 405
+response_status fault.Read = None
+response_status fault.ShortBody = None
+response_status fault.NoMemory = None
+response_status _ = Some 400

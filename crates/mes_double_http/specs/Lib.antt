@@ -10,3 +10,5 @@ pub mod Requests
 pub mod Bodies
 pub mod Calls
 pub mod Hosts
+pub mod Connections
+pub mod Received

@@ -2,6 +2,8 @@
 -- line is empty.
 use Rattle.std.specs.Prelude.{ℕ, List, [], ◌++◌, Option, None, Some, codes, decimal}
 use Rattle.http.specs.StatusCode.{reason_phrase}
+use Rattle.mes_double_http.specs.declared.persistence.Persistence.{Persistence}
+use Rattle.mes_double_http.specs.declared.persistence.Persistence.TheVariants.{Close, Keep, KeepAlive}
 
 abbrev pub or_nothing : Option (List ℕ) → List ℕ
 or_nothing None = []
@@ -22,6 +24,20 @@ abbrev pub status_text : ℕ → List ℕ
 status_text code =
     codes "HTTP/1.1 " ++ decimal code ++ codes " " ++ phrase_text code
     ++ codes "\r\nContent-Length: 0\r\nConnection: close\r\n\r\n"
+
+-- the head of a response without a body, after which the connection stays open; `option` is the
+-- line of the field Connection, or nothing
+abbrev pub kept_text : List ℕ → ℕ → List ℕ
+kept_text option code =
+    codes "HTTP/1.1 " ++ decimal code ++ codes " " ++ phrase_text code
+    ++ codes "\r\nContent-Length: 0\r\n" ++ option ++ codes "\r\n"
+
+-- the head of a response without a body: it says what becomes of the connection, except that
+-- HTTP/1.1 keeps a connection open without saying so (RFC 9112 section 9.3)
+abbrev pub response_text : Persistence → ℕ → List ℕ
+response_text Close code = status_text code
+response_text Keep code = kept_text [] code
+response_text KeepAlive code = kept_text (codes "Connection: keep-alive\r\n") code
 
 -- the line with the stream id, or nothing without an id
 abbrev pub stream_line : Option (List ℕ) → List ℕ

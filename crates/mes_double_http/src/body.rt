@@ -16,11 +16,11 @@ pub(crate) fn take_body<S: Source>(
     reader: &mut S,
     size: usize,
 ) -> Result<Vec<u8>, HeadFault>
-    ensures { (taken : List ℕ) × Consumes (S.left reader.old) (S.left reader.new) taken
+    ensures { (taken : List ℕ) × Consumes (S.device reader.old).bytes (S.device reader.new).bytes taken
         × MatchResult result
         (λ body. (body.items ≡ taken) × (length taken ≡ size)
-        × AllGive (S.counts reader.old) (S.counts reader.new))
-        (λ f. StopsBody size f taken (S.counts reader.old) (S.counts reader.new)) }
+        × AllGive (S.device reader.old).counts (S.device reader.new).counts)
+        (λ f. StopsBody size f taken (S.device reader.old).counts (S.device reader.new).counts) }
 {
     let mut body = Vec::new(alloc);
     while body.len() < size {
@@ -35,11 +35,11 @@ pub(crate) fn take_body<S: Source>(
 /// Reads at most `left` bytes with one call of the reader, and appends them to `body`.
 fn take_part<S: Source>(reader: &mut S, left: usize, body: &mut Vec<u8>) -> Result<(), HeadFault>
     requires { 0 < left }
-    ensures { (part : List ℕ) × Consumes (S.left reader.old) (S.left reader.new) part
+    ensures { (part : List ℕ) × Consumes (S.device reader.old).bytes (S.device reader.new).bytes part
         × MatchResult result
         (λ _. (body.new.items ≡ body.old.items ++ part) × (0 < length part) × (length part ≤ left)
-        × AllGive (S.counts reader.old) (S.counts reader.new))
-        (λ f. StopsPart left f part (S.counts reader.old) (S.counts reader.new)) }
+        × AllGive (S.device reader.old).counts (S.device reader.new).counts)
+        (λ f. StopsPart left f part (S.device reader.old).counts (S.device reader.new).counts) }
 {
     let mut buffer = [0; MAX_BODY_READ];
     let room = left.min(MAX_BODY_READ);

@@ -27,12 +27,12 @@ pub fn write_call<W: Sink>(
     requires visible { All IsVisible host.now }
     // On success: the canonical text of the call has at most `MAX_BODY` bytes, and the whole
     // request is written.
-    ensures ok { OnOk result (WroteCall W.written W.counts host.now
+    ensures ok { OnOk result (WroteCall W.device host.now
         (option_map (λ id. id.now) stream.entry) call.now writer.old writer.new) }
 
     // On error: the canonical text of the call is too deep or too large for a body, or memory ran
     // out, and the writer was not called; or the writer stopped after the first `sent` bytes.
-    ensures err { IfErr result (StopsCall W.written W.counts host.now
+    ensures err { IfErr result (StopsCall W.device host.now
         (option_map (λ id. id.now) stream.entry) call.now writer.old writer.new) }
 {
     let request = request_of(alloc, host, stream, call)?;

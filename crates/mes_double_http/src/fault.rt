@@ -1,7 +1,7 @@
 //! The faults of heads and bodies.
 
 ghost use Rattle.std.specs.Prelude.{◌≡◌, ◌≤◌, length};
-ghost use Rattle.mes_double_http.specs.Faults.{head_fault_text, head_fault_title};
+ghost use Rattle.mes_double_http.specs.Faults.{head_fault_text, head_fault_title, response_status};
 
 use crate::limits::MAX_HEAD_FAULT;
 use arrayvec::ArrayString;
@@ -53,6 +53,19 @@ impl HeadFault {
         if let HeadFault::Status(code) = self {
             text.push_str(" ");
             text.push_str(Buffer::new().format(code.as_u16()));
+        }
+    }
+
+    /// Returns the status of a master's response to a request that is refused so. `None`: there is
+    /// no response, because the connection or the memory failed.
+    pub fn response(&self) -> Option<StatusCode>
+        ensures { result ≡ response_status self.now }
+    {
+        match self {
+            HeadFault::WrongPath => Some(StatusCode::NOT_FOUND),
+            HeadFault::WrongMethod => Some(StatusCode::METHOD_NOT_ALLOWED),
+            HeadFault::Read | HeadFault::ShortBody | HeadFault::NoMemory => None,
+            _ => Some(StatusCode::BAD_REQUEST),
         }
     }
 

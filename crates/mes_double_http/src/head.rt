@@ -45,12 +45,12 @@ pub(crate) fn take_response<S: Source>(
     taken: &mut ArrayVec<u8, MAX_HEAD>,
     headers: &mut [HeaderSpan; MAX_FIELDS],
 ) -> Result<ResponseSpans, HeadStop>
-    ensures took { Consumes (S.left reader.old) (S.left reader.new) taken.new.items }
+    ensures took { Consumes (S.device reader.old).bytes (S.device reader.new).bytes taken.new.items }
     ensures ok { IfOk result (IsResponseTaken taken.new.items headers.new) }
     ensures ok_counts { IfOk result
-        (λ _. GaveEach (length taken.new.items) (S.counts reader.old) (S.counts reader.new)) }
-    ensures err { IfErr result (λ stop. StopsResponse stop taken.new.items (S.counts reader.old)
-        (S.counts reader.new)) }
+        (λ _. GaveEach (length taken.new.items) (S.device reader.old).counts (S.device reader.new).counts) }
+    ensures err { IfErr result (λ stop. StopsResponse stop taken.new.items (S.device reader.old).counts
+        (S.device reader.new).counts) }
 {
     taken.clear();
     while taken.len() < MAX_HEAD {
@@ -76,11 +76,11 @@ pub(crate) fn take_request<S: Source>(
     taken: &mut ArrayVec<u8, MAX_HEAD>,
     headers: &mut [HeaderSpan; MAX_FIELDS],
 ) -> Result<RequestSpans, HeadStop>
-    ensures took { Consumes (S.left reader.old) (S.left reader.new) taken.new.items }
+    ensures took { Consumes (S.device reader.old).bytes (S.device reader.new).bytes taken.new.items }
     ensures ok { IfOk result (IsRequestTaken taken.new.items headers.new) }
-    ensures ok_counts { IfOk result (λ _. AllGive (S.counts reader.old) (S.counts reader.new)) }
-    ensures err { IfErr result (λ stop. StopsRequest stop taken.new.items (S.counts reader.old)
-        (S.counts reader.new)) }
+    ensures ok_counts { IfOk result (λ _. AllGive (S.device reader.old).counts (S.device reader.new).counts) }
+    ensures err { IfErr result (λ stop. StopsRequest stop taken.new.items (S.device reader.old).counts
+        (S.device reader.new).counts) }
 {
     taken.clear();
     while taken.len() < MAX_HEAD {
@@ -105,11 +105,11 @@ pub(crate) fn take_request<S: Source>(
 }
 
 fn take_byte<S: Source>(reader: &mut S) -> Result<u8, HeadStop>
-    ensures ok { IfOk result (λ byte. Consumes (S.left reader.old) (S.left reader.new) (byte
+    ensures ok { IfOk result (λ byte. Consumes (S.device reader.old).bytes (S.device reader.new).bytes (byte
         ∷ [])) }
-    ensures ok_counts { IfOk result (λ _. GaveEach 1 (S.counts reader.old) (S.counts reader.new)) }
-    ensures err { IfErr result (λ stop. Consumes (S.left reader.old) (S.left reader.new) []
-        × StopsByte stop (S.counts reader.old) (S.counts reader.new)) }
+    ensures ok_counts { IfOk result (λ _. GaveEach 1 (S.device reader.old).counts (S.device reader.new).counts) }
+    ensures err { IfErr result (λ stop. Consumes (S.device reader.old).bytes (S.device reader.new).bytes []
+        × StopsByte stop (S.device reader.old).counts (S.device reader.new).counts) }
 {
     let mut buffer = [0];
     match reader.fetch(&mut buffer) {

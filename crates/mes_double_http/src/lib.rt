@@ -8,6 +8,8 @@
 //!     let request = read_request(alloc, &mut source)?;
 //!     write_ok(&mut sink, &id)?;
 //!
+//! [`RequestReader`] reads consecutive requests from bytes that come in pieces, by the same rules.
+//!
 //! The contracts of the readers promise that exactly a valid head and its body were read, or that
 //! the error is the first fault ([`HeadFault`]). The tests check that a written call is read back.
 //! The crate `mes_double_master` has the master's state. The tests are in `mes_double_http_tests`.
@@ -22,7 +24,9 @@ mod host;
 mod limits;
 mod lines;
 mod media_type;
+mod persistence;
 mod request;
+mod request_reader;
 mod response;
 mod response_writer;
 mod rules;
@@ -36,8 +40,10 @@ pub use host::Host;
 pub use limits::{
     MAX_BODY, MAX_FIELDS, MAX_HEAD, MAX_HEAD_FAULT, MAX_HOST, MAX_LENGTH_DIGITS, MAX_STREAM_ID,
 };
+pub use persistence::Persistence;
 pub use request::{Request, read_request};
+pub use request_reader::{NextRequest, RequestReader};
 pub use response::{read_answer, read_head};
-pub use response_writer::{write_ok, write_status};
+pub use response_writer::{push_ok, push_status, write_ok, write_status};
 pub use stream_id::StreamId;
 pub use theorems::http_limits;

@@ -32,7 +32,7 @@ fn semicolon_in(value: &[u8]) -> Option<usize>
 
 /// Returns the text without spaces and tabs at its ends.
 #[tactic(auto, unfolding(httparse::specs::Grammar::trim_ows))]
-fn trim(text: &[u8]) -> &[u8]
+pub(crate) fn trim(text: &[u8]) -> &[u8]
     ensures { result.now ≡ trim_ows text.now }
 {
     trim_end(trim_start(text))

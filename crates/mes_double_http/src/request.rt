@@ -31,9 +31,9 @@ pub struct Request {
 
 /// The stream id and the body's length, from the head of a request.
 #[derive(Debug, Drop)]
-struct Announced {
-    stream: Option<StreamId>,
-    length: usize,
+pub(crate) struct Announced {
+    pub stream: Option<StreamId>,
+    pub length: usize,
 }
 
 /// Reads a request, and nothing after its body. If the head is refused, nothing after the head is
@@ -41,11 +41,11 @@ struct Announced {
 pub fn read_request<S: Source>(alloc: Global, reader: &mut S) -> Result<Request, HeadFault>
     // On success: exactly a valid head and its body were read. Each error: the first fault of the
     // request.
-    ensures { (taken : List ℕ) × Consumes (S.left reader.old) (S.left reader.new) taken
+    ensures { (taken : List ℕ) × Consumes (S.device reader.old).bytes (S.device reader.new).bytes taken
         × MatchResult result
         (λ request. IsWholeCall taken request.stream request.body.items
-        × AllGive (S.counts reader.old) (S.counts reader.new))
-        (λ f. RefusesCall f taken (S.counts reader.old) (S.counts reader.new)) }
+        × AllGive (S.device reader.old).counts (S.device reader.new).counts)
+        (λ f. RefusesCall f taken (S.device reader.old).counts (S.device reader.new).counts) }
 {
     let announced = take_announced(reader)?;
     match take_body(alloc, reader, announced.length) {
@@ -58,11 +58,11 @@ pub fn read_request<S: Source>(alloc: Global, reader: &mut S) -> Result<Request,
 }
 
 fn take_announced<S: Source>(reader: &mut S) -> Result<Announced, HeadFault>
-    ensures { (taken : List ℕ) × Consumes (S.left reader.old) (S.left reader.new) taken
+    ensures { (taken : List ℕ) × Consumes (S.device reader.old).bytes (S.device reader.new).bytes taken
         × MatchResult result
         (λ a. (h : RequestHead) × IsRequest taken h × IsCall h a.length a.stream
-        × AllGive (S.counts reader.old) (S.counts reader.new))
-        (λ f. RefusesCall f taken (S.counts reader.old) (S.counts reader.new)) }
+        × AllGive (S.device reader.old).counts (S.device reader.new).counts)
+        (λ f. RefusesCall f taken (S.device reader.old).counts (S.device reader.new).counts) }
 {
     let mut taken = ArrayVec::new();
     let mut headers = [EMPTY_HEADER_SPAN; MAX_FIELDS];
@@ -73,7 +73,7 @@ fn take_announced<S: Source>(reader: &mut S) -> Result<Announced, HeadFault>
 }
 
 /// Returns the stream id and the body's length, or the first fault of the head.
-fn announced_by(
+pub(crate) fn announced_by(
     taken: &[u8],
     headers: &[HeaderSpan],
     head: &RequestSpans,

@@ -28,11 +28,11 @@ const ACCEPTED: u16 = 202;
 pub fn read_head<S: Source>(reader: &mut S) -> Result<StreamId, HeadFault>
     // On success: exactly a valid head was read, a byte per call. Each error: the first fault of
     // the head.
-    ensures { (taken : List ℕ) × Consumes (S.left reader.old) (S.left reader.new) taken
+    ensures { (taken : List ℕ) × Consumes (S.device reader.old).bytes (S.device reader.new).bytes taken
         × MatchResult result
-        (λ id. OpensStream taken id × GaveEach (length taken) (S.counts reader.old)
-        (S.counts reader.new))
-        (λ f. Refuses BreaksStream f taken (S.counts reader.old) (S.counts reader.new)) }
+        (λ id. OpensStream taken id × GaveEach (length taken) (S.device reader.old).counts
+        (S.device reader.new).counts)
+        (λ f. Refuses BreaksStream f taken (S.device reader.old).counts (S.device reader.new).counts) }
 {
     let mut taken = ArrayVec::new();
     let mut headers = [EMPTY_HEADER_SPAN; MAX_FIELDS];
@@ -46,10 +46,10 @@ pub fn read_head<S: Source>(reader: &mut S) -> Result<StreamId, HeadFault>
 /// allocate.
 pub fn read_answer<S: Source>(reader: &mut S) -> Result<(), HeadFault>
     // On success: exactly a head with status 202 was read. Each error: the first fault of the head.
-    ensures { (taken : List ℕ) × Consumes (S.left reader.old) (S.left reader.new) taken
+    ensures { (taken : List ℕ) × Consumes (S.device reader.old).bytes (S.device reader.new).bytes taken
         × MatchResult result
-        (λ _. Accepts taken × AllGive (S.counts reader.old) (S.counts reader.new))
-        (λ f. Refuses BreaksAnswer f taken (S.counts reader.old) (S.counts reader.new)) }
+        (λ _. Accepts taken × AllGive (S.device reader.old).counts (S.device reader.new).counts)
+        (λ f. Refuses BreaksAnswer f taken (S.device reader.old).counts (S.device reader.new).counts) }
 {
     let mut taken = ArrayVec::new();
     let mut headers = [EMPTY_HEADER_SPAN; MAX_FIELDS];

@@ -1,6 +1,6 @@
 //! A check that the first bytes of a request end inside its target (`/api/v1/scheduler`).
 
-ghost use Rattle.std.specs.Prelude.{◌≡◌, ◌==◌, ◌<◌, ◌++◌, ◌∷◌, ℕ, List, length, position, IsTrue, ◌↔◌, IfSome, MatchOption};
+ghost use Rattle.std.specs.Prelude.{◌≡◌, ◌==◌, ◌<◌, ◌++◌, [], ◌∷◌, ℕ, List, length, position, IsTrue, ◌↔◌, IfSome, MatchOption};
 ghost use Rattle.httparse.specs.Ascii.{space};
 ghost use Rattle.httparse.specs.Grammar.{AllPass, is_uri_byte};
 ghost use Rattle.mes_double_http.specs.Stops.{is_no_space, IsInTarget};
@@ -12,6 +12,19 @@ pub(crate) fn ends_in_target(taken: &[u8]) -> bool
     match after_space(taken) {
         Some(target) => is_target(target),
         None => false,
+    }
+}
+
+/// Returns the bytes up to the first space, with the space.
+pub(crate) fn through_space(taken: &[u8]) -> Option<&[u8]>
+    ensures { MatchOption result
+        (AllPass is_no_space taken.now)
+        (λ start. (front : List ℕ) × (rest : List ℕ) × (start.now ≡ front ++ space ∷ [])
+        × (taken.now ≡ front ++ space ∷ rest) × AllPass is_no_space front) }
+{
+    match space_in(taken) {
+        Some(place) => Some(&taken[..place + 1]),
+        None => None,
     }
 }
 

@@ -10,7 +10,7 @@ use std::test::Fail;
 
 /// Heads of requests, each with its first fault, in the order target, method, media type, length,
 /// maximum length, stream id.
-const FAULTS: &str =
+pub(crate) const FAULTS: &str =
     "POST /api/v1/scheduler HTTP/1.1|Content-Type: application/json|Content-Length: 47|| => ok
 POST /api/v1/scheduler HTTP/1.0|cOnTeNt-TyPe: APPLICATION/json|CONTENT-LENGTH: 47|| => ok
 ||POST /api/v1/scheduler HTTP/1.1|content-type: application/json\t; charset=utf-8|content-length:47|| => ok
@@ -38,7 +38,7 @@ POST /api/v1/scheduler HTTP/1.1|Content-Type: application/json|Content-Length: 4
 
 /// Heads with which one request is smuggled in another. Two readers that parse such a head
 /// differently would split the stream of requests differently.
-const SHAPES: &str = "Content-Length: 47|Content-Length: 47 => H10 NoLength
+pub(crate) const SHAPES: &str = "Content-Length: 47|Content-Length: 47 => H10 NoLength
 Content-Length: 47|content-length: 46 => H10 NoLength
 Content-Length: 47, 47 => H10 NoLength
 Transfer-Encoding: chunked => H10 NoLength
@@ -70,7 +70,7 @@ Content-Length: 47|A\u{e9}: b => H3 BadHead";
 
 /// More heads for request smuggling, with bytes that a row of a table cannot contain. A bare LF may
 /// end a line (RFC 9112 section 2.2); a bare CR and a NUL are refused.
-const BYTES: [(&str, &str); 7] = [
+pub(crate) const BYTES: [(&str, &str); 7] = [
     ("Content-Length: 47\nA: b", "ok"),
     ("Content-Length: 46\nContent-Length: 47", "H10 NoLength"),
     ("A: b\rContent-Length: 47", "H3 BadHead"),
@@ -85,10 +85,12 @@ fn the_first_fault_of_a_request_is_reported(rt: HostRuntime) -> Result<(), Fail>
     expect_rows(&rt, Reads::Request, FAULTS, CALL)
 }
 
-const FRONT: &str = "POST /api/v1/scheduler HTTP/1.1|Host: h|Content-Type: application/json|";
+/// The first lines of a request whose fields follow.
+pub(crate) const FRONT: &str =
+    "POST /api/v1/scheduler HTTP/1.1|Host: h|Content-Type: application/json|";
 
 #[test]
-fn smuggled_shapes_are_refused(rt: HostRuntime) -> Result<(), Fail> {
+fn smuggled_requests_are_refused(rt: HostRuntime) -> Result<(), Fail> {
     for line in SHAPES.lines() {
         let (lines, expected) = row_of(line)?;
         expect_shape(&rt, lines, expected)?;
@@ -112,7 +114,7 @@ fn expect_shape<R: Abort + AllocGlobal>(rt: &R, lines: &str, expected: &str) -> 
 }
 
 #[test]
-fn a_body_is_taken_exactly(rt: HostRuntime) -> Result<(), Fail> {
+fn a_body_is_read_exactly(rt: HostRuntime) -> Result<(), Fail> {
     let mut bytes = bytes_of(rt.alloc(), CALL_LINES, CALL)?;
     bytes.extend_from_slice(b"XY")?;
     for most in [1, 7, 4096] {

@@ -51,7 +51,7 @@ HTTP/1.1 042 Low|| => H3 BadHead
 HTTP/1.1 202 Accepted| => H3 BadHead";
 
 #[test]
-fn heads_of_answers_are_taken(rt: HostRuntime) -> Result<(), Fail> {
+fn heads_of_responses_are_accepted(rt: HostRuntime) -> Result<(), Fail> {
     expect_rows(&rt, Reads::Head, HEADS, b"")?;
     expect_rows(&rt, Reads::Answer, ANSWERS, b"")
 }
@@ -67,7 +67,7 @@ fn opens(source: &mut MemorySource<'_>, stream: &str) -> bool {
 /// The stream id is the value of the field `Mesos-Stream-Id`, and the body after the head is not
 /// consumed.
 #[test]
-fn a_head_is_taken_alone(rt: HostRuntime) -> Result<(), Fail> {
+fn a_head_is_read_without_its_body(rt: HostRuntime) -> Result<(), Fail> {
     let bytes = bytes_of(rt.alloc(), OK_LINES, b"XY")?;
     let mut source = MemorySource::new(bytes.as_slice(), 64);
     assert!(rt; opens(&mut source, "s1"));

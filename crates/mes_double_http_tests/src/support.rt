@@ -143,7 +143,7 @@ pub(crate) fn leaves(source: &mut MemorySource<'_>, bytes: &[u8]) -> Result<bool
 }
 
 /// Returns the stream id of a request, or `-`.
-fn stream_of(request: &Request) -> &str {
+pub(crate) fn stream_of(request: &Request) -> &str {
     match &request.stream {
         Some(id) => id.as_str(),
         None => "-",

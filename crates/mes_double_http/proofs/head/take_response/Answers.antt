@@ -22,7 +22,7 @@ loop-reader-preserved g c =
       | else-byte-eq10-via-else-byte-eq10 w ↦ few-push c.loop-reader.taken.items c.push.new.self.items c.in_ok-byte.byte c.push.ensures.items c.loop-reader.invariant.pends.2 (search rules)
     ] in
     record {
-      took = took-push (g.S.Source.left c.args.reader.now) (g.S.Source.left c.loop-reader.reader) (g.S.Source.left c.take_byte.new.reader) c.loop-reader.taken.items c.push.new.self.items c.in_ok-byte.byte
+      took = took-push (g.S.Source.device c.args.reader.now).bytes (g.S.Source.device c.loop-reader.reader).bytes (g.S.Source.device c.take_byte.new.reader).bytes c.loop-reader.taken.items c.push.new.self.items c.in_ok-byte.byte
           c.push.ensures.items c.loop-reader.invariant.took c.in_ok-byte.ensures.ok;
       gives = search rules;
       bytes = search rules;
