@@ -240,14 +240,14 @@ module _ (c : Course) (j : Joined c) (index : ℕ) (p : Sent) (there : slice_get
   pub open-joined : (uuid : List ℕ) (uuids : List (List ℕ)) → c.world.master.down ≡ false → Joined (to_answered c index p (subscribed c.world.master (uuid ∷ uuids)))
   open-joined uuid uuids up = record {
     once = j.once;
-    known = λ x. omega (arith, j.known x, brought-append x c.world.waiting (subscribed_event c.world.master.framework ∷ []));
+    known = λ x. omega (arith, j.known x, brought-append x c.world.waiting (subscribed_event c.world.master.framework c.world.master.interval ∷ []));
     named = j.named;
     live = λ i q o here n h. absurd (omega (arith, h));
     framework = j.framework;
     own = own-append c.world.master.framework c.world.waiting _ j.own (λ other e. (let f : Some c.world.master.framework ≡ Some other = e in cc), tt);
     down = λ e. apart c.world.master.down e up;
     sent = unsent c j index p there (arrival_of index p (subscribed c.world.master (uuid ∷ uuids))) refl;
-    agrees = λ stream e. ap (λ (t : Held). t.hand) (fold-more (λ (s : Held) (e : Event). after s (Heard e)) c.world.session c.world.waiting (subscribed_event c.world.master.framework ∷ [])) ∙ filter-none (hears c.world.session c.world.waiting).hand;
+    agrees = λ stream e. ap (λ (t : Held). t.hand) (fold-more (λ (s : Held) (e : Event). after s (Heard e)) c.world.session c.world.waiting (subscribed_event c.world.master.framework c.world.master.interval ∷ [])) ∙ filter-none (hears c.world.session c.world.waiting).hand;
   }
 
   -- ---- calls that are carried out

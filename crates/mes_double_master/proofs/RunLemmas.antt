@@ -1,4 +1,4 @@
--- In any sequence of calls and events no offer is taken twice and no task is launched twice. The
+-- In any sequence of calls, events and broken streams no offer is taken twice and no task is launched twice. The
 -- proof counts how often each identifier occurs.
 use Rattle.std.proofs.Common.{◌≡◌, ℕ, ◌+◌, ◌≤◌, Bool, true, false, ◌||◌, not, if◌then◌else◌, fold, slice_get, List, [], ◌∷◌, ◌++◌, Option, Some, None, is_some, Ok, Err, refl, sym, ap, subst, ◌∙◌, append_assoc, arith}
 use Rattle.std.specs.Str.{bytes_eq}
@@ -21,10 +21,10 @@ use Rattle.mes_session_state.specs.Calls.{framework_of}
 use Rattle.mes_session_state.specs.Refusals.{is_among, is_duplicated, ids_of}
 use Rattle.mes_double_master_state.proofs.IdLemmas.{comes_more}
 use Rattle.mes_double_master.specs.declared.refusal.MasterRefusal.TheVariants.{OfferTwice, NoSuchOffer}
-use Rattle.mes_double_master.specs.Masters.{MasterState, MasterAnswer, plain, subscribed, is_there, all_there, named, new_tasks, launchable, accepted, declined, has_update, agrees, carried_out, is_named, in_stream, is_subscribe, handled}
+use Rattle.mes_double_master.specs.Masters.{MasterState, MasterAnswer, plain, subscribed, is_there, all_there, named, new_tasks, launchable, accepted, declined, has_update, agrees, carried_out, is_named, in_stream, is_subscribe, handled, stream_broke}
 use Rattle.mes_double_master.specs.Sending.{Sends, on_stream, offer_ids, is_duplicate, made, reported, reported_unacknowledged, updated, waiting, resent}
-use Rattle.mes_double_master.specs.Runs.{new_master, Deed, Past, after_call, after_sending, after, past_of, LaunchedOnce, TakenOnce}
-use Rattle.mes_double_master.specs.Runs.Deed.{handles, offers, rescinds, updates, resends}
+use Rattle.mes_double_master.specs.Runs.{master_with, Deed, Past, after_call, after_sending, after, past_of, LaunchedOnce, TakenOnce}
+use Rattle.mes_double_master.specs.Runs.Deed.{handles, offers, rescinds, updates, resends, breaks}
 
 -- ---- how often an identifier occurs in a list
 
@@ -178,7 +178,7 @@ fine m call given =
     if-fine m (m.down || not (agrees m.framework (framework_of call))) _ _ (fine-plain m 403)
     (if-fine m (is_subscribe call) _ _ (fine-subscribed m m.ids) (fine-in m call m.stream given))
 
--- ---- `Sound`: what holds after any sequence of calls and events
+-- ---- `Sound`: what holds after any sequence of calls, events and broken streams
 
 pub record Sound (past : Past) : Type 0 where
   -- each offer that was taken or is outstanding was made, and no offer is counted twice
@@ -257,28 +257,36 @@ sound-resent : (past : Past) (e : Option (OwedKey × TaskStatus)) → Sound past
 sound-resent past None s = s
 sound-resent past (Some e) s = kept past past.master refl refl refl s
 
+sound-broke : (past : Past) → Sound past → Sound (after past breaks)
+sound-broke past s = by (is_some past.master.stream) refl
+  where
+    by : (b : Bool) → is_some past.master.stream ≡ b → Sound (record past { master = stream_broke past.master })
+    by true e = rw e (record { took = λ x. omega (arith, s.took x); offered = s.offered; ran = s.ran; launched = s.launched })
+    by false e = rw e s
+
 sound-after : (past : Past) (deed : Deed) → Sound past → Sound (after past deed)
 sound-after past (handles call stream) s = sound-call past _ (fine past.master call stream) s
 sound-after past (offers list) s = sound-offers past list s
 sound-after past (rescinds name) s = sound-rescind past name s
 sound-after past (updates status) s = on past _ s (sound-updated past status (owed_key_of status) s)
 sound-after past (resends index) s = on past _ s (sound-resent past (slice_get (waiting past.master.owing past.master.acked) index) s)
+sound-after past breaks s = sound-broke past s
 
 sound-run : (past : Past) (deeds : List Deed) → Sound past → Sound (fold after past deeds)
 sound-run past [] s = s
 sound-run past (d ∷ ds) s = sound-run (after past d) ds (sound-after past d s)
 
-sound : (framework : Id) (ids : List (List ℕ)) (deeds : List Deed) → Sound (past_of framework ids deeds)
-sound framework ids deeds =
-    sound-run (record { master = new_master framework ids; took = []; ran = [] }) deeds
+sound : (framework : Id) (ids : List (List ℕ)) (interval : Option ℕ) (deeds : List Deed) → Sound (past_of framework ids interval deeds)
+sound framework ids interval deeds =
+    sound-run (record { master = master_with framework ids interval; took = []; ran = [] }) deeds
     (record { took = λ x. omega arith; offered = λ x. omega arith; ran = refl; launched = λ x. omega arith })
 
-pub launched-once : (framework : Id) (ids : List (List ℕ)) (deeds : List Deed) → LaunchedOnce (past_of framework ids deeds)
-launched-once framework ids deeds =
-    (let s : Sound (past_of framework ids deeds) = sound framework ids deeds in record { launched = s.ran; once = distinct _ s.launched })
+pub launched-once : (framework : Id) (ids : List (List ℕ)) (interval : Option ℕ) (deeds : List Deed) → LaunchedOnce (past_of framework ids interval deeds)
+launched-once framework ids interval deeds =
+    (let s : Sound (past_of framework ids interval deeds) = sound framework ids interval deeds in record { launched = s.ran; once = distinct _ s.launched })
 
-pub taken-once : (framework : Id) (ids : List (List ℕ)) (deeds : List Deed) → TakenOnce (past_of framework ids deeds)
-taken-once framework ids deeds =
-    let s : Sound (past_of framework ids deeds) = sound framework ids deeds in
-    let few : (x : List ℕ) → times x (offer_ids (past_of framework ids deeds).took) ≤ 1 = λ x. omega (arith, s.took x, s.offered x) in
+pub taken-once : (framework : Id) (ids : List (List ℕ)) (interval : Option ℕ) (deeds : List Deed) → TakenOnce (past_of framework ids interval deeds)
+taken-once framework ids interval deeds =
+    let s : Sound (past_of framework ids interval deeds) = sound framework ids interval deeds in
+    let few : (x : List ℕ) → times x (offer_ids (past_of framework ids interval deeds).took) ≤ 1 = λ x. omega (arith, s.took x, s.offered x) in
     distinct _ few

@@ -1,5 +1,5 @@
 -- The state of a test master, and its response to each call.
-use Rattle.std.specs.Prelude.{◌≡◌, ℕ, Bool, true, false, ◌||◌, not, if◌then◌else◌, List, [], ◌∷◌, ◌++◌, map, filter, Option, Some, None, is_some}
+use Rattle.std.specs.Prelude.{◌≡◌, ℕ, Bool, true, false, ◌||◌, not, if◌then◌else◌, List, [], ◌∷◌, ◌++◌, length, map, filter, Option, Some, None, is_some}
 use Rattle.std.specs.List.{list_all}
 use Rattle.std.specs.Str.{bytes_eq}
 use Rattle.uuid.specs.Text.{hyphenated_text, lower}
@@ -17,12 +17,14 @@ use Rattle.mes_session_state.specs.Held.{offer_in, names, without_offers, with_k
 use Rattle.mes_session_state.specs.Calls.{framework_of}
 use Rattle.mes_session_state.specs.Refusals.{ids_of}
 pub use Rattle.mes_double_master_state.specs.Ids.{same_id, new_tasks}
-pub use Rattle.mes_double_master_state.specs.Events.{interval, subscribed_event, update_event, reconciled_event, last_of, asked_for}
+pub use Rattle.mes_double_master_state.specs.Events.{usual_interval, subscribed_event, update_event, reconciled_event, last_of, asked_for}
 pub use Rattle.mes_double_master_state.specs.Updates.{has_update, key_in}
 
 -- the state of a master
 pub record MasterState : Type 0 where
   pub framework : Id
+  -- the heartbeat interval that SUBSCRIBED announces, in microseconds
+  pub interval : Option ℕ
   -- the UUIDs for the ids of future streams, in order
   pub ids : List (List ℕ)
   -- the id of the current stream
@@ -58,7 +60,7 @@ abbrev pub subscribed : MasterState → List (List ℕ) → MasterAnswer
 subscribed m [] = plain 403 m
 subscribed m (uuid ∷ uuids) = record {
   status = 200;
-  events = subscribed_event m.framework ∷ [];
+  events = subscribed_event m.framework m.interval ∷ [];
   took = [];
   ran = [];
   master = record m { ids = uuids; stream = Some (hyphenated_text lower uuid); outstanding = [] };
@@ -116,6 +118,12 @@ reconciled m tasks = record { status = 202; events = map reconciled_event (asked
 abbrev pub torn_down : MasterState → MasterState
 torn_down m = record m { stream = None; down = true; outstanding = [] }
 
+-- ---- a broken stream
+
+-- the state after the current stream was disconnected; unchanged if there is no current stream
+abbrev pub stream_broke : MasterState → MasterState
+stream_broke m = if is_some m.stream then record m { stream = None; outstanding = [] } else m
+
 -- ---- the response to each call
 
 -- true if a call names this framework or none
@@ -159,3 +167,8 @@ pub record IsAnswer (answer : MasterAnswer) (status : ℕ) (events : List Event)
   pub status_is : status ≡ answer.status
   pub events_are : events ≡ answer.events
   pub master_is : master ≡ answer.master
+
+-- the code's counts are those of the offers that the response takes, and of the tasks it launches
+pub record Counts (answer : MasterAnswer) (taken ran : ℕ) : Type 0 where
+  pub taken_is : taken ≡ length answer.took
+  pub ran_is : ran ≡ length answer.ran

@@ -1,13 +1,18 @@
 //! The state of the test master. `handling.rt` handles calls, `sending.rt` makes events.
 ghost use Rattle.std.specs.Prelude.{◌≡◌, length, slice_get, option_copied};
-ghost use Rattle.mes_double_master.specs.Runs.{new_master};
+ghost use Rattle.std.specs.Map.{lookup};
+ghost use Rattle.mes_session_state.specs.Refusals.{is_among};
+ghost use Rattle.mes_double_master.specs.Masters.{same_id};
+ghost use Rattle.mes_double_master.specs.Runs.{master_with, new_master};
 
 mod handling;
 mod sending;
 
 use indexmap::{IndexMap, IndexSet};
 use mes_double_http::StreamId;
+use mes_double_master_state::events::usual_interval;
 use mes_model::{Id, Offer, OwedKey, TaskStatus};
+use mes_model_schema::fixed::Micros;
 use mes_session_state::{OutstandingOffers, UpdateKeys};
 use std::alloc::Global;
 use std::marker::Model;
@@ -18,6 +23,8 @@ use uuid::Uuid;
 pub struct Master {
     alloc: Global,
     framework: Id,
+    /// The heartbeat interval that SUBSCRIBED announces.
+    interval: Option<Micros>,
     /// The UUIDs for the ids of future streams, in order.
     ids: Vec<Uuid>,
     stream: Option<StreamId>,
@@ -45,6 +52,7 @@ impl Model for Master {
 
     ghost view = { λ m. record {
       framework = m.framework;
+      interval = m.interval;
       ids = m.ids.items;
       stream = m.stream;
       down = m.down;
@@ -62,9 +70,23 @@ impl Master {
     pub fn new(alloc: Global, framework: Id, ids: Vec<Uuid>) -> Master
         ensures { result ≡ new_master framework ids.items }
     {
+        Master::with_interval(alloc, framework, ids, usual_interval())
+    }
+
+    /// Like [`Master::new`], for a heartbeat interval other than the usual 15 seconds. `None`
+    /// announces none.
+    pub fn with_interval(
+        alloc: Global,
+        framework: Id,
+        ids: Vec<Uuid>,
+        interval: Option<Micros>,
+    ) -> Master
+        ensures { result ≡ master_with framework ids.items interval }
+    {
         Master {
             alloc,
             framework,
+            interval,
             ids,
             stream: None,
             down: false,
@@ -96,6 +118,27 @@ impl Master {
         ensures { option_copied result ≡ slice_get self.now.outstanding index }
     {
         self.outstanding.get_index(index)
+    }
+
+    /// Returns the outstanding offers.
+    pub fn outstanding(&self) -> &OutstandingOffers
+        ensures { result.now ≡ self.now.outstanding }
+    {
+        &self.outstanding
+    }
+
+    /// Returns the last status of a task, or `None` if no status of the task was sent.
+    pub fn last_status(&self, task: &Id) -> Option<&TaskStatus>
+        ensures { option_copied result ≡ lookup (same_id task.now) self.now.latest }
+    {
+        self.latest.get(task)
+    }
+
+    /// Returns whether a task with this identifier was launched.
+    pub fn has_launched(&self, task: &Id) -> bool
+        ensures { result ≡ is_among task.now self.now.launched }
+    {
+        self.launched.contains(task)
     }
 
     /// Returns the number of launched tasks.

@@ -8,12 +8,13 @@ use Rattle.mes_msg.specs.Event.{Event}
 use Rattle.mes_msg.specs.Event.TheVariants as event
 use Rattle.mes_double_master_state.specs.Ids.{same_id}
 
--- the heartbeat interval that the master announces: 15 seconds, in microseconds
-abbrev pub interval : ℕ
-interval = 15000000
+-- the heartbeat interval of a master that is given none: 15 seconds, in microseconds
+abbrev pub usual_interval : Option ℕ
+usual_interval = Some 15000000
 
-abbrev pub subscribed_event : Id → Event
-subscribed_event framework = event.Subscribed (record { framework_id = framework; heartbeat_interval_seconds = Some interval })
+-- the SUBSCRIBED with this heartbeat interval in microseconds, or with none
+abbrev pub subscribed_event : Id → Option ℕ → Event
+subscribed_event framework interval = event.Subscribed (record { framework_id = framework; heartbeat_interval_seconds = interval })
 
 abbrev pub update_event : TaskStatus → Event
 update_event status = event.Update (record { status = status })

@@ -3,7 +3,7 @@ ghost use Rattle.std.specs.Prelude.{◌≡◌, ◌++◌, [], ◌∷◌, map, fil
 ghost use Rattle.std.specs.Map.{values_of, lookup};
 ghost use Rattle.mes_model.specs.TaskRef.{TaskRef as Named};
 ghost use Rattle.mes_double_master_state.specs.Ids.{same_id};
-ghost use Rattle.mes_double_master_state.specs.Events.{subscribed_event, update_event, reconciled_event, last_of, asked_for};
+ghost use Rattle.mes_double_master_state.specs.Events.{usual_interval, subscribed_event, update_event, reconciled_event, last_of, asked_for};
 
 use indexmap::IndexMap;
 use mes_model::{Id, Offer, TaskRef, TaskStatus};
@@ -13,16 +13,35 @@ use mes_model_schema::{Boxed, List, Part};
 use mes_msg::{Event, Subscribed, Update};
 use std::alloc::Global;
 
-/// The heartbeat interval that the master announces, in microseconds: 15 seconds.
+/// The usual heartbeat interval that a master announces, in microseconds: 15 seconds.
 const INTERVAL: u64 = 15_000_000;
 
-/// Returns the event SUBSCRIBED for a framework.
+/// Returns the event SUBSCRIBED for a framework, with the usual heartbeat interval.
 pub fn subscribed(alloc: Global, framework: &Id) -> Result<Event, NoMemory>
-    ensures { IfOk result (λ event. event ≡ subscribed_event framework.now) }
+    ensures { IfOk result (λ event. event ≡ subscribed_event framework.now usual_interval) }
+{
+    subscribed_every(alloc, framework, usual_interval())
+}
+
+/// Returns the heartbeat interval that a master announces if it is given none: 15 seconds.
+pub fn usual_interval() -> Option<Micros>
+    ensures { result ≡ usual_interval }
+{
+    Micros::of_units(INTERVAL)
+}
+
+/// Returns the event SUBSCRIBED for a framework, with this heartbeat interval. `None` announces
+/// none.
+pub fn subscribed_every(
+    alloc: Global,
+    framework: &Id,
+    interval: Option<Micros>,
+) -> Result<Event, NoMemory>
+    ensures { IfOk result (λ event. event ≡ subscribed_event framework.now interval) }
 {
     Ok(Event::Subscribed(Subscribed {
         framework_id: framework.copy(alloc)?,
-        heartbeat_interval_seconds: Micros::of_units(INTERVAL),
+        heartbeat_interval_seconds: interval,
     }))
 }
 

@@ -3,7 +3,13 @@
 #![tactic(auto)]
 
 #[cfg(test)]
+mod breaks;
+#[cfg(test)]
 mod calls;
+#[cfg(test)]
+mod counts;
+#[cfg(test)]
+mod intervals;
 #[cfg(test)]
 mod sends;
 #[cfg(test)]

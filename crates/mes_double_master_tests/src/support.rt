@@ -2,7 +2,8 @@
 //!
 //! A row is `ACTION => RESULT => STATE`. An action is one of:
 //! - a call, such as `2 {"type":"REVIVE",..}`, with the number of the stream that it names, or `-`;
-//! - `offer EVENT`, `rescind ID`, `update EVENT` or `resend INDEX`.
+//! - `offer EVENT`, `rescind ID`, `update EVENT` or `resend INDEX`;
+//! - `break`: the current stream is disconnected. Its result is `-`.
 //!
 //! The result of a call is its status and the canonical texts of the events. Other results are the
 //! canonical text of the event, or the number of the refusal. A state, such as `O1 O2 / T1 / T1 /
@@ -12,6 +13,7 @@
 
 use mes_double_http::StreamId;
 use mes_double_master::{Answer, Master, MasterRefusal};
+use mes_fixed::Micros;
 use mes_json::Text;
 use mes_model::Id;
 use mes_msg::{Call, Event, Limit};
@@ -40,14 +42,31 @@ fn uuid_of(alloc: Global, number: &str) -> Result<Uuid, Fail> {
     }
 }
 
-/// Returns a master of the framework F1 with ids for the streams 1, 2 and 3.
-pub(crate) fn new_master(alloc: Global) -> Result<Master, Fail> {
+/// Returns the ids of the streams 1, 2 and 3.
+fn stream_ids(alloc: Global) -> Result<Vec<Uuid>, Fail> {
     let mut ids = Vec::new(alloc);
     for number in ["1", "2", "3"] {
         ids.push(uuid_of(alloc, number)?)?;
     }
-    let value = Text::of(alloc, "F1")?;
-    Ok(Master::new(alloc, Id { value }, ids))
+    Ok(ids)
+}
+
+/// Returns the id with this text.
+pub(crate) fn id_of(alloc: Global, text: &str) -> Result<Id, Fail> {
+    let value = Text::of(alloc, text)?;
+    Ok(Id { value })
+}
+
+/// Returns a master of the framework F1 with ids for the streams 1, 2 and 3.
+pub(crate) fn new_master(alloc: Global) -> Result<Master, Fail> {
+    let ids = stream_ids(alloc)?;
+    Ok(Master::new(alloc, id_of(alloc, "F1")?, ids))
+}
+
+/// Like [`new_master`], with this heartbeat interval.
+pub(crate) fn master_with(alloc: Global, interval: Option<Micros>) -> Result<Master, Fail> {
+    let ids = stream_ids(alloc)?;
+    Ok(Master::with_interval(alloc, id_of(alloc, "F1")?, ids, interval))
 }
 
 fn call_of(alloc: Global, text: &str) -> Result<Call, Fail> {
@@ -105,19 +124,10 @@ fn sent(alloc: Global, answer: Result<Event, MasterRefusal>) -> Result<String, F
     }
 }
 
-/// Has the master handle a call that names this stream or none, and returns the printed response.
-fn handled(
-    alloc: Global,
-    master: &mut Master,
-    call: &Call,
-    stream: Option<&StreamId>,
-) -> Result<String, Fail> {
+/// Has the master handle a call that names this stream or none.
+fn handled(master: &mut Master, call: &Call, stream: Option<&StreamId>) -> Result<Answer, Fail> {
     match master.handle(call, stream) {
-        Ok(answer) => {
-            let reported = reported(alloc, &answer);
-            drop(answer);
-            reported
-        }
+        Ok(answer) => Ok(answer),
         Err(_) => Err("memory")?,
     }
 }
@@ -127,26 +137,47 @@ fn called_by(
     master: &mut Master,
     stream: &str,
     call: &Call,
-) -> Result<String, Fail> {
+) -> Result<Answer, Fail> {
     if stream == "-" {
-        return handled(alloc, master, call, None);
+        return handled(master, call, None);
     }
     let id = stream_of(alloc, stream)?;
-    handled(alloc, master, call, Some(&id))
+    handled(master, call, Some(&id))
 }
 
 /// Has the master handle the call with this text. The call names the stream with this number, or
 /// none for `-`.
+fn answer_to(alloc: Global, master: &mut Master, stream: &str, text: &str) -> Result<Answer, Fail> {
+    let call = call_of(alloc, text)?;
+    let answer = called_by(alloc, master, stream, &call);
+    drop(call);
+    answer
+}
+
+/// Like [`answer_to`]; returns the printed response.
 pub(crate) fn called(
     alloc: Global,
     master: &mut Master,
     stream: &str,
     text: &str,
 ) -> Result<String, Fail> {
-    let call = call_of(alloc, text)?;
-    let reported = called_by(alloc, master, stream, &call);
-    drop(call);
+    let answer = answer_to(alloc, master, stream, text)?;
+    let reported = reported(alloc, &answer);
+    drop(answer);
     reported
+}
+
+/// Like [`answer_to`]; returns the numbers of offers taken and of tasks launched, as `2 1`.
+pub(crate) fn counted(
+    alloc: Global,
+    master: &mut Master,
+    stream: &str,
+    text: &str,
+) -> Result<String, Fail> {
+    let answer = answer_to(alloc, master, stream, text)?;
+    let (taken, launched) = (answer.taken, answer.launched);
+    drop(answer);
+    Ok(format!(in alloc; "{taken} {launched}")?)
 }
 
 fn offered_as(alloc: Global, master: &mut Master, event: &Event) -> Result<String, Fail> {
@@ -184,15 +215,24 @@ fn resent(alloc: Global, master: &Master, text: &str) -> Result<String, Fail> {
     }
 }
 
+/// Disconnects the current stream.
+fn broken(alloc: Global, master: &mut Master, deed: &str) -> Result<String, Fail> {
+    if deed != "break" {
+        Err("a deed is `break` or has two words")?
+    }
+    master.broken();
+    Ok(String::from_str(alloc, "-")?)
+}
+
 /// Executes an action and prints its result.
-fn done(alloc: Global, master: &mut Master, deed: &str) -> Result<String, Fail> {
+pub(crate) fn done(alloc: Global, master: &mut Master, deed: &str) -> Result<String, Fail> {
     match deed.split_once(" ") {
         Some(("offer", text)) => offered(alloc, master, text),
         Some(("rescind", id)) => sent(alloc, master.rescind(id)),
         Some(("update", text)) => updated(alloc, master, text),
         Some(("resend", index)) => resent(alloc, master, index),
         Some((stream, text)) => called(alloc, master, stream, text),
-        None => Err("a deed has two words")?,
+        None => broken(alloc, master, deed),
     }
 }
 

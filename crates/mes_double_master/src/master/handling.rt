@@ -1,9 +1,10 @@
 //! How a test master handles calls.
-ghost use Rattle.std.specs.Prelude.{◌≡◌, true, option_copied, IfOk, OnErr};
+ghost use Rattle.std.specs.Prelude.{◌≡◌, ◌++◌, true, length, option_copied, IfOk, OnOk, OnErr};
 ghost use Rattle.std.specs.List.{list_all};
 ghost use Rattle.mes_session_fit.specs.Launched.{launched, launched_by};
 ghost use Rattle.mes_session_state.specs.Calls.{framework_of};
-ghost use Rattle.mes_double_master.specs.Masters.{IsAnswer, is_there, all_there, subscribed, accepted, declined, acknowledged, key_in, reconciled, torn_down, plain, agrees, carried_out, is_named, in_stream, is_subscribe, handled};
+ghost use Rattle.mes_session_state.specs.Refusals.{ids_of};
+ghost use Rattle.mes_double_master.specs.Masters.{IsAnswer, Counts, is_there, all_there, subscribed, launchable, accepted, declined, acknowledged, key_in, reconciled, stream_broke, torn_down, plain, agrees, carried_out, is_named, in_stream, is_subscribe, handled};
 ghost use Rattle.mes_double_master.specs.Memory.{notes, MayWantMemory};
 
 use super::Master;
@@ -37,6 +38,9 @@ impl Master {
         ensures ok { IfOk result (λ a. IsAnswer
             (handled self.old call.now (option_copied stream.entry)) a.status a.events.items
             self.new) }
+        // On success: the number of offers that the call took, and of tasks that it launched.
+        ensures counts { IfOk result (λ a. Counts
+            (handled self.old call.now (option_copied stream.entry)) a.taken a.launched) }
         ensures err { OnErr result (self.new ≡ self.old) }
         // An allocation fails only for a call that would make events or be recorded.
         ensures memory { OnErr result (MayWantMemory self.old call.now
@@ -55,6 +59,8 @@ impl Master {
     fn subscribe(&mut self) -> Result<Answer, NoMemory>
         ensures ok { IfOk result (λ a. IsAnswer (subscribed self.old self.old.ids) a.status
             a.events.items self.new) }
+        ensures counts { IfOk result (λ a. Counts (subscribed self.old self.old.ids) a.taken
+            a.launched) }
         ensures err { OnErr result (self.new ≡ self.old) }
         ensures memory { OnErr result ((subscribed self.old self.old.ids).status ≡ 200) }
     {
@@ -62,13 +68,15 @@ impl Master {
             return Ok(Answer::plain(self.alloc, StatusCode::FORBIDDEN));
         }
         let mut events = Vec::new(self.alloc);
-        events.push(events::subscribed(self.alloc, &self.framework)?)?;
+        events.push(events::subscribed_every(self.alloc, &self.framework, self.interval)?)?;
         let id = self.ids.remove(0);
         self.stream = Some(StreamId::of_uuid(id));
         self.outstanding.clear();
         Ok(Answer {
             status: StatusCode::OK,
             events,
+            taken: 0,
+            launched: 0,
         })
     }
 
@@ -76,6 +84,9 @@ impl Master {
         ensures ok { IfOk result (λ a. IsAnswer
             (in_stream self.old call.now self.old.stream (option_copied given.entry)) a.status
             a.events.items self.new) }
+        ensures counts { IfOk result (λ a. Counts
+            (in_stream self.old call.now self.old.stream (option_copied given.entry)) a.taken
+            a.launched) }
         ensures err { OnErr result (self.new ≡ self.old) }
         ensures memory { OnErr result (((in_stream self.old call.now self.old.stream
             (option_copied given.entry)).status ≡ 202) × (notes self.old call.now ≡ true)) }
@@ -93,6 +104,8 @@ impl Master {
     fn carry_out(&mut self, call: &Call) -> Result<Answer, NoMemory>
         ensures ok { IfOk result (λ a. IsAnswer (carried_out self.old call.now) a.status
             a.events.items self.new) }
+        ensures counts { IfOk result (λ a. Counts (carried_out self.old call.now) a.taken
+            a.launched) }
         ensures err { OnErr result (self.new ≡ self.old) }
         ensures memory { OnErr result (((carried_out self.old call.now).status ≡ 202)
             × (notes self.old call.now ≡ true)) }
@@ -101,7 +114,7 @@ impl Master {
             Call::Accept { body, .. } => {
                 self.accept(body.offer_ids.as_slice(), body.operations.as_slice())
             }
-            Call::Decline { body, .. } => Ok(self.decline(body.offer_ids.as_slice())),
+            Call::Decline { body, .. } => Ok(self.take(body.offer_ids.as_slice())),
             Call::Acknowledge { body, .. } => self.acknowledge(body),
             Call::Reconcile { body, .. } => self.reconcile(body.tasks.as_slice()),
             Call::Teardown { .. } => Ok(self.tear_down()),
@@ -115,21 +128,50 @@ impl Master {
         ensures ok { IfOk result (λ a. IsAnswer
             (accepted self.old ids.now (launched launched_by operations.now)) a.status
             a.events.items self.new) }
+        ensures counts { IfOk result (λ a. Counts
+            (accepted self.old ids.now (launched launched_by operations.now)) a.taken
+            a.launched) }
         ensures err { OnErr result (self.new ≡ self.old) }
         ensures memory { OnErr result (all_there self.old.outstanding ids.now ≡ true) }
     {
+        let count = self.launch_tasks(ids, operations)?;
+        let mut answer = self.take(ids);
+        answer.launched = count;
+        Ok(answer)
+    }
+
+    /// Launches the tasks of an ACCEPT if all of its offers are outstanding, and returns their
+    /// number.
+    fn launch_tasks(&mut self, ids: &[Id], operations: &[Operation]) -> Result<usize, NoMemory>
+        ensures ok { OnOk result (self.new
+            ≡ record self.old {
+              launched = self.old.launched
+                  ++ ids_of (launchable self.old ids.now (launched launched_by operations.now));
+            }) }
+        ensures count { IfOk result (λ count. count
+            ≡ length (launchable self.old ids.now (launched launched_by operations.now))) }
+        ensures err { OnErr result (self.new ≡ self.old) }
+        ensures memory { OnErr result (all_there self.old.outstanding ids.now ≡ true) }
+    {
+        let before = self.launched.len();
         if all_there(&self.outstanding, ids) {
             launch(self.alloc, &mut self.launched, operations)?;
         }
-        self.outstanding.remove_all(ids);
-        Ok(Answer::plain(self.alloc, StatusCode::ACCEPTED))
+        Ok(self.launched.len().saturating_sub(before))
     }
 
-    fn decline(&mut self, ids: &[Id]) -> Answer
-        ensures { IsAnswer (declined self.old ids.now) result.status result.events.items self.new }
+    /// Removes the offers that an ACCEPT or a DECLINE names.
+    #[tactic(auto, using(crate::proofs::CountLemmas::counted_taken))]
+    fn take(&mut self, ids: &[Id]) -> Answer
+        ensures answer { IsAnswer (declined self.old ids.now) result.status result.events.items
+            self.new }
+        ensures counts { Counts (declined self.old ids.now) result.taken result.launched }
     {
+        let before = self.outstanding.len();
         self.outstanding.remove_all(ids);
-        Answer::plain(self.alloc, StatusCode::ACCEPTED)
+        let mut answer = Answer::plain(self.alloc, StatusCode::ACCEPTED);
+        answer.taken = before.saturating_sub(self.outstanding.len());
+        answer
     }
 
     /// Handles an ACKNOWLEDGE: records the key, if an update with this key was sent.
@@ -137,6 +179,8 @@ impl Master {
         ensures ok { IfOk result (λ a. IsAnswer
             (plain 202 (acknowledged self.old (key_in body.now))) a.status a.events.items
             self.new) }
+        ensures counts { IfOk result (λ a. Counts
+            (plain 202 (acknowledged self.old (key_in body.now))) a.taken a.launched) }
         ensures err { OnErr result (self.new ≡ self.old) }
     {
         let key = key_in(self.alloc, body)?;
@@ -148,20 +192,35 @@ impl Master {
 
     /// Handles a RECONCILE: returns an UPDATE of the last status of each task that it asks for.
     fn reconcile(&self, tasks: &[TaskRef]) -> Result<Answer, NoMemory>
-        ensures { IfOk result (λ a. IsAnswer (reconciled self.now tasks.now) a.status a.events.items
-            self.now) }
+        ensures ok { IfOk result (λ a. IsAnswer (reconciled self.now tasks.now) a.status
+            a.events.items self.now) }
+        ensures counts { IfOk result (λ a. Counts (reconciled self.now tasks.now) a.taken
+            a.launched) }
     {
         let events = events::reconcile(self.alloc, &self.latest, tasks)?;
         Ok(Answer {
             status: StatusCode::ACCEPTED,
             events,
+            taken: 0,
+            launched: 0,
         })
+    }
+
+    /// Notes that the current stream was disconnected: there is no current stream, and no offer is
+    /// outstanding, until the next SUBSCRIBE. Does nothing without a stream. Does not allocate.
+    pub fn broken(&mut self)
+        ensures { self.new ≡ stream_broke self.old }
+    {
+        if self.stream.take().is_some() {
+            self.outstanding.clear();
+        }
     }
 
     /// Handles a TEARDOWN: ends the stream and removes all offers.
     fn tear_down(&mut self) -> Answer
-        ensures { IsAnswer (plain 202 (torn_down self.old)) result.status result.events.items
-            self.new }
+        ensures answer { IsAnswer (plain 202 (torn_down self.old)) result.status
+            result.events.items self.new }
+        ensures counts { Counts (plain 202 (torn_down self.old)) result.taken result.launched }
     {
         self.stream = None;
         self.down = true;

@@ -1,6 +1,7 @@
 use Rattle.mes_double_master.proofs.AgainLemmas.{again}
+use Rattle.mes_double_master.proofs.BrokenLemmas.{refused}
 use Rattle.mes_double_master.proofs.FitLemmas.{fits-ran}
-use Rattle.mes_double_master.proofs.RunLemmas.{launched-once, taken-once}
+use Rattle.mes_double_master.proofs.RunLemmas.{fine, launched-once, taken-once}
 use Rattle.mes_double_master.proofs.theorems.master_laws.Goals as goal
 
 pub returns-clause-launched : goal.returns-clause-launched
@@ -14,3 +15,9 @@ returns-clause-again c = again
 
 pub returns-clause-fits : goal.returns-clause-fits
 returns-clause-fits c = fits-ran
+
+pub returns-clause-last : goal.returns-clause-last
+returns-clause-last c = λ m call given. (fine m call given).launched
+
+pub returns-clause-broken : goal.returns-clause-broken
+returns-clause-broken c = refused
