@@ -1,0 +1,5 @@
+pub mod ListLemmas
+pub mod TimeLemmas
+pub mod RoundLemmas
+pub mod TaskLemmas
+pub mod FittingLemmas

@@ -1,0 +1,6 @@
+use Rattle.std.proofs.Common.{◌≡◌, ◌++◌, map, take, drop}
+use Rattle.mes_double_cluster.specs.Tasks.{killed}
+use Rattle.mes_double_cluster.proofs.task_list.killed.Given as goal
+
+abbrev pub invariant-loop-task : goal.invariant-loop-task
+invariant-loop-task l = l.tasks ≡ map (killed l.id) (take l.task-index l.fn.tasks) ++ drop l.task-index l.fn.tasks

@@ -1,0 +1,10 @@
+pub mod Times
+pub mod OfferStates
+pub mod Stock
+pub mod TaskProgress
+pub mod Statuses
+pub mod Tasks
+pub mod Updates
+pub mod TaskRuns
+pub mod Fitting
+pub mod Clusters

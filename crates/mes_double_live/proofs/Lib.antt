@@ -1,0 +1,4 @@
+pub mod MoveLemmas
+pub mod FitLemmas
+pub mod SafeLemmas
+pub mod TakenLemmas

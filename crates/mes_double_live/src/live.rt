@@ -1,0 +1,424 @@
+//! The state of a live test master. `calling.rt` handles calls, `accepting.rt` ACCEPT, and
+//! `telling.rt` the events from outside.
+ghost use Rattle.std.specs.Prelude.{◌≡◌, ◌≤◌, option_copied};
+ghost use Rattle.mes_double_master.specs.Masters.{stream_broke};
+ghost use Rattle.mes_double_live.specs.Bodies.{empty, written, cleared};
+ghost use Rattle.mes_double_live.specs.Moving.{Moves};
+
+mod accepting;
+mod calling;
+mod telling;
+
+use crate::fault::LiveFault;
+use crate::reply::EndedStream;
+use crate::settings::Settings;
+use crate::stream_body::StreamBody;
+use mes_double_cluster::{Cluster, SentUpdates};
+use mes_double_http::StreamId;
+use mes_double_master::{Master, MasterRefusal};
+use mes_frame::{MAX_CHUNK, MIN_CHUNK};
+use mes_json::NoMemory;
+use mes_model::{Offer, TaskStatus};
+use mes_model_schema::List;
+use mes_msg::Event;
+use std::alloc::Global;
+use std::marker::Model;
+use std::slice;
+
+/// A live test master: a test master with its cluster, and the current stream. Times are in
+/// milliseconds. In contracts its value is `LiveState`.
+#[derive(Drop)]
+pub struct Live {
+    alloc: Global,
+    settings: Settings,
+    master: Master,
+    cluster: Cluster,
+    /// When each unacknowledged update was sent last, in the order of the master's list of them.
+    sent: SentUpdates,
+    /// The body of the current stream; empty without one.
+    out: StreamBody,
+    /// The events from outside that wait for the next stream.
+    waiting: Vec<Event>,
+    /// The latest time that was passed.
+    time: u64,
+    /// The time of the next HEARTBEAT on the current stream.
+    beats_at: u64,
+}
+
+impl Model for Live {
+    ghost use Rattle.std.specs.Coded.{codes};
+    ghost use Rattle.mes_model_schema.specs.MembersCode.{members_code};
+    ghost use Rattle.mes_double_live.specs.Lives.{LiveState};
+
+    ghost Value = { LiveState };
+
+    ghost coded = { Prim.hlevel (codes, members_code) };
+
+    ghost view = { λ live. record { master = live.master; out = live.out } };
+}
+
+impl Live {
+    /// Returns a live test master without a stream, at the time 0. Chunks have at most
+    /// `settings.most` bytes, from `MIN_CHUNK` to `MAX_CHUNK`. Does not allocate.
+    pub fn new(alloc: Global, master: Master, settings: &Settings) -> Live
+        requires least { MIN_CHUNK ≤ settings.now.most }
+        requires greatest { settings.now.most ≤ MAX_CHUNK }
+        ensures { result ≡ record { master = master; out = empty settings.now.most } }
+    {
+        Live {
+            alloc,
+            settings: *settings,
+            master,
+            cluster: Cluster::new(alloc, settings.finish_after),
+            sent: SentUpdates::new(alloc),
+            out: StreamBody::new(alloc, settings.most),
+            waiting: Vec::new(alloc),
+            time: 0,
+            beats_at: 0,
+        }
+    }
+
+    /// Returns the allocator.
+    pub fn alloc(&self) -> Global {
+        self.alloc
+    }
+
+    /// Returns the id of the current stream.
+    pub fn stream(&self) -> Option<&StreamId>
+        ensures { option_copied result ≡ self.now.master.stream }
+    {
+        self.master.stream()
+    }
+
+    /// Returns a copy of the id of the current stream.
+    fn current(&self) -> Option<StreamId>
+        ensures { result ≡ self.now.master.stream }
+    {
+        match self.master.stream() {
+            Some(id) => Some(id.copy()),
+            None => None,
+        }
+    }
+
+    fn has_stream(&self) -> bool {
+        self.master.stream().is_some()
+    }
+
+    /// Returns the bytes of the current stream that are not written.
+    pub fn pending(&self) -> &[u8]
+        ensures { result.now ≡ self.now.out.pending }
+    {
+        self.out.pending()
+    }
+
+    /// Notes that the first `count` pending bytes were written.
+    pub fn wrote(&mut self, count: usize)
+        ensures { self.new ≡ record self.old { out = written count self.old.out } }
+    {
+        self.out.wrote(count);
+    }
+
+    /// Notes that the current stream was disconnected: its pending bytes are lost, no offer is
+    /// outstanding, and calls get 403 until the next SUBSCRIBE.
+    pub fn broken(&mut self)
+        ensures state { self.new
+            ≡ record { master = stream_broke self.old.master; out = cleared self.old.out } }
+        ensures moves { Moves self.old.master self.new.master }
+    {
+        self.master.broken();
+        self.cluster.disconnected(self.time);
+        self.out.clear();
+    }
+
+    /// Ends the current stream by its last chunk, and returns what is not written of it, or `None`
+    /// without a stream. Otherwise it is like [`Live::broken`].
+    pub fn stop(&mut self) -> Result<Option<EndedStream>, LiveFault>
+        ensures { Moves self.old.master self.new.master }
+    {
+        let Some(id) = self.current() else {
+            return Ok(None);
+        };
+        self.break_stream();
+        Ok(Some(self.end_stream(id)?))
+    }
+
+    /// Notes in the master that the current stream was disconnected.
+    fn break_stream(&mut self)
+        ensures { Moves self.old.master self.new.master }
+    {
+        self.master.broken();
+    }
+
+    /// Ends the current stream by its last chunk. The offers that were outstanding are free.
+    fn end_stream(&mut self, id: StreamId) -> Result<EndedStream, LiveFault>
+        ensures { self.new.master ≡ self.old.master }
+    {
+        self.cluster.disconnected(self.time);
+        let rest = self.out.end()?;
+        Ok(EndedStream { id, rest })
+    }
+
+    /// Notes the time. A HEARTBEAT, updates and offers that are due are sent on the current stream.
+    /// A time before the latest one counts as that one.
+    pub fn passed(&mut self, now: u64) -> Result<(), LiveFault>
+        // The test master changes only by its own deeds, and what these launch fits.
+        ensures { Moves self.old.master self.new.master }
+    {
+        self.note_time(now);
+        if !self.has_stream() {
+            return Ok(());
+        }
+        self.beat_due()?;
+        self.resend_due()?;
+        self.send_due()
+    }
+
+    fn note_time(&mut self, now: u64)
+        ensures { self.new ≡ self.old }
+    {
+        self.time = self.time.max(now);
+    }
+
+    /// Sends a HEARTBEAT if one is due.
+    fn beat_due(&mut self) -> Result<(), LiveFault>
+        ensures { self.new.master ≡ self.old.master }
+    {
+        if self.beats_at <= self.time {
+            self.beat()
+        } else {
+            Ok(())
+        }
+    }
+
+    /// Returns the first time at which something is due on the current stream; `None` without a
+    /// stream.
+    pub fn first_due(&self) -> Option<u64> {
+        self.master.stream()?;
+        let first = match self.cluster.first_due() {
+            Some(due) => due.min(self.beats_at),
+            None => self.beats_at,
+        };
+        match self.first_resend() {
+            Some(due) => Some(due.min(first)),
+            None => Some(first),
+        }
+    }
+
+    /// Returns the first time at which an update is sent again.
+    fn first_resend(&self) -> Option<u64> {
+        match self.settings.resend {
+            Some(every) => self.sent.first_due(every),
+            None => None,
+        }
+    }
+
+    /// Sends a HEARTBEAT on the current stream. The next one is due an interval later. Does nothing
+    /// without a stream.
+    pub fn beat(&mut self) -> Result<(), LiveFault>
+        ensures { self.new.master ≡ self.old.master }
+    {
+        if !self.has_stream() {
+            return Ok(());
+        }
+        self.beats_at = self.time.saturating_add(self.settings.heartbeat);
+        self.out.push(&Event::Heartbeat)
+    }
+
+    /// Sends the updates again whose time has come.
+    fn resend_due(&mut self) -> Result<(), LiveFault>
+        ensures { self.new.master ≡ self.old.master }
+    {
+        let Some(every) = self.settings.resend else {
+            return Ok(());
+        };
+        for index in 0..self.sent.len() {
+            if let Some(due) = self.sent.due_from(index, every)
+                && due <= self.time
+            {
+                self.resend(index)?;
+            }
+        }
+        Ok(())
+    }
+
+    /// Sends all unacknowledged updates again.
+    fn resend_all(&mut self) -> Result<(), LiveFault>
+        ensures { self.new.master ≡ self.old.master }
+    {
+        for index in 0..self.sent.len() {
+            self.resend(index)?;
+        }
+        Ok(())
+    }
+
+    /// Sends the unacknowledged update at an index again.
+    fn resend(&mut self, index: usize) -> Result<(), LiveFault>
+        ensures { self.new.master ≡ self.old.master }
+    {
+        match self.master.resend(index) {
+            Ok(event) => {
+                self.sent.sent_again(index, self.time);
+                self.out.push(&event)
+            }
+            Err(MasterRefusal::NoMemory) => Err(LiveFault::NoMemory),
+            Err(_) => Ok(()),
+        }
+    }
+
+    /// Sends the updates and then the offers that are due. Does nothing without a stream.
+    fn send_due(&mut self) -> Result<(), LiveFault>
+        ensures { Moves self.old.master self.new.master }
+    {
+        if !self.has_stream() {
+            return Ok(());
+        }
+        self.report_due()?;
+        self.offer_due()
+    }
+
+    /// Sends the next update of each task that has one due.
+    fn report_due(&mut self) -> Result<(), LiveFault>
+        ensures { Moves self.old.master self.new.master }
+    {
+        for index in 0..self.tasks_len() {
+            self.report_at(index)?;
+        }
+        Ok(())
+    }
+
+    /// Sends the next update of the task at an index, if it is due.
+    fn report_at(&mut self, index: usize) -> Result<(), LiveFault>
+        ensures { Moves self.old.master self.new.master }
+    {
+        match self.status_due(index)? {
+            Some(status) => self.report(index, &status),
+            None => Ok(()),
+        }
+    }
+
+    fn tasks_len(&self) -> usize {
+        self.cluster.tasks_len()
+    }
+
+    /// Returns the next status of the task at an index, if it is due.
+    fn status_due(&self, index: usize) -> Result<Option<TaskStatus>, NoMemory> {
+        self.cluster.status_at(index, self.time)
+    }
+
+    /// Sends the update of the task at an index. If its uuid was used by an event from outside, the
+    /// update gets the next one later.
+    fn report(&mut self, index: usize, status: &TaskStatus) -> Result<(), LiveFault>
+        ensures { Moves self.old.master self.new.master }
+    {
+        match self.update(status)? {
+            Some(event) => self.send_first(index, status, &event),
+            None => {
+                self.cluster.skip_update();
+                Ok(())
+            }
+        }
+    }
+
+    /// Returns the UPDATE of a status, or `None` if the master refuses it.
+    fn update(&mut self, status: &TaskStatus) -> Result<Option<Event>, NoMemory>
+        ensures { Moves self.old.master self.new.master }
+    {
+        match self.master.update(status) {
+            Ok(event) => Ok(Some(event)),
+            Err(MasterRefusal::NoMemory) => Err(NoMemory),
+            Err(_) => Ok(None),
+        }
+    }
+
+    /// Sends the update of the task at an index for the first time.
+    fn send_first(
+        &mut self,
+        index: usize,
+        status: &TaskStatus,
+        event: &Event,
+    ) -> Result<(), LiveFault>
+        ensures { self.new.master ≡ self.old.master }
+    {
+        self.cluster.reported(index, status.state, self.time);
+        self.note_sent(status)?;
+        self.out.push(event)
+    }
+
+    /// Notes the time at which an update was sent for the first time, if it requires an
+    /// acknowledgement.
+    fn note_sent(&mut self, status: &TaskStatus) -> Result<(), NoMemory>
+        ensures { self.new ≡ self.old }
+    {
+        match status.owed_key(self.alloc)? {
+            Some(key) => self.sent.push(key, self.time),
+            None => Ok(()),
+        }
+    }
+
+    /// Makes the offers that are due, and sends them in one event.
+    fn offer_due(&mut self) -> Result<(), LiveFault>
+        ensures { Moves self.old.master self.new.master }
+    {
+        let made = self.make_offers()?;
+        if made.is_empty() {
+            return Ok(());
+        }
+        self.out.push(&Event::Offers(List::new(made)))
+    }
+
+    /// Makes the offers that are due.
+    fn make_offers(&mut self) -> Result<Vec<Offer>, LiveFault>
+        ensures { Moves self.old.master self.new.master }
+    {
+        let mut made = Vec::new(self.alloc());
+        for index in 0..self.stock_len() {
+            self.make_offer_at(index, &mut made)?;
+        }
+        Ok(made)
+    }
+
+    /// Makes the offer at an index of the stock, if it is due, and appends it to those that were
+    /// made.
+    fn make_offer_at(&mut self, index: usize, made: &mut Vec<Offer>) -> Result<(), LiveFault>
+        ensures { Moves self.old.master self.new.master }
+    {
+        match self.next_offer(index)? {
+            Some(offer) => self.make_offer(index, offer, made),
+            None => Ok(()),
+        }
+    }
+
+    fn stock_len(&self) -> usize {
+        self.cluster.stock_len()
+    }
+
+    /// Returns the offer at an index of the stock under a new identifier, if it is due.
+    fn next_offer(&mut self, index: usize) -> Result<Option<Offer>, NoMemory>
+        ensures { self.new ≡ self.old }
+    {
+        self.cluster.offer_at(index, self.time)
+    }
+
+    /// Makes the offer at an index of the stock, and appends it to those that were made. If its
+    /// identifier was used before, the offer gets the next one later.
+    fn make_offer(
+        &mut self,
+        index: usize,
+        offer: Offer,
+        made: &mut Vec<Offer>,
+    ) -> Result<(), LiveFault>
+        ensures { Moves self.old.master self.new.master }
+    {
+        match self.master.note_offers(slice::from_ref(&offer)) {
+            Ok(()) => {
+                self.cluster.offered(index);
+                match made.push(offer) {
+                    Ok(()) => Ok(()),
+                    Err(_) => Err(LiveFault::NoMemory),
+                }
+            }
+            Err(MasterRefusal::NoMemory) => Err(LiveFault::NoMemory),
+            Err(_) => Ok(()),
+        }
+    }
+}

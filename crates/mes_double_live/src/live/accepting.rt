@@ -1,0 +1,271 @@
+//! How a live test master handles ACCEPT: the master launches only tasks that fit the offers.
+ghost use Rattle.std.specs.Prelude.{◌≡◌, None as none, option_copied, IfOk, OnOk};
+ghost use Rattle.mes_msg.specs.Call.TheVariants as of;
+ghost use Rattle.mes_session_fit.specs.Fits.{Fits};
+ghost use Rattle.mes_session_state.specs.Calls.{accept_call};
+ghost use Rattle.mes_double_master.specs.Masters.{named, handled};
+ghost use Rattle.mes_double_live.specs.Moving.{Moves};
+
+use super::Live;
+use crate::fault::LiveFault;
+use crate::reply::Reply;
+use crate::taken_offers::{TakenOffers, all_there};
+use http::StatusCode;
+use mes_double_cluster::{refusal_end, task_error, task_lost, unfitting_resource};
+use mes_double_http::StreamId;
+use mes_double_master::Master;
+use mes_json::{NoMemory, Text};
+use mes_model::{Id, TaskInfo, TaskStatus};
+use mes_model_schema::Part;
+use mes_msg::{Accept, Operation};
+use mes_session_calls::make_accept;
+use std::alloc::Global;
+use std::mem;
+
+/// The message for the tasks of an ACCEPT that names an offer that is not outstanding.
+const NOT_THERE: &str = "An offer is not outstanding";
+
+/// The message for the tasks of an ACCEPT of offers of two agents.
+const TWO_AGENTS: &str = "Offers are of two agents";
+
+/// The tasks of an ACCEPT that are launched, and the statuses of the others.
+#[derive(Drop)]
+struct LaunchPlan {
+    kept: Vec<TaskInfo>,
+    refused: Vec<TaskStatus>,
+}
+
+impl Live {
+    /// Handles an ACCEPT. The master is given the call with only those tasks that it may launch:
+    /// none unless all offers are outstanding and of one agent, no task that is for another agent
+    /// or was launched before, and no task that does not fit the offers beside those before it.
+    pub(super) fn accept(
+        &mut self,
+        stream: Option<&StreamId>,
+        framework: &Id,
+        body: &Accept,
+    ) -> Result<Reply, LiveFault>
+        ensures moves { Moves self.old.master self.new.master }
+        ensures status { IfOk result (λ reply. reply.status
+            ≡ (handled self.old.master (of.Accept framework.now body.now)
+            (option_copied stream.entry)).status) }
+    {
+        let plan = launch_plan(self.alloc, &self.master, body)?;
+        let ids = body.offer_ids.as_slice();
+        let status = self.launch(stream, framework, ids, plan.kept.as_slice())?;
+        if status == StatusCode::ACCEPTED {
+            self.note_launch(body, &plan)?;
+        }
+        Ok(Reply::plain(status))
+    }
+
+    /// Gives the master the ACCEPT of these offers and tasks, and returns the status of its
+    /// response.
+    fn launch(
+        &mut self,
+        stream: Option<&StreamId>,
+        framework: &Id,
+        ids: &[Id],
+        tasks: &[TaskInfo],
+    ) -> Result<StatusCode, NoMemory>
+        requires { Fits (named ids.now self.old.master.outstanding) tasks.now }
+        ensures moves { Moves self.old.master self.new.master }
+        ensures status { IfOk result (λ status. status
+            ≡ (handled self.old.master (accept_call framework.now ids.now tasks.now none)
+            (option_copied stream.entry)).status) }
+    {
+        let call = make_accept(self.alloc, framework, ids, tasks, None)?;
+        let answer = self.master.handle(&call, stream)?;
+        Ok(answer.status)
+    }
+
+    /// Notes in the cluster what was launched, and sends the statuses of the other tasks.
+    fn note_launch(&mut self, body: &Accept, plan: &LaunchPlan) -> Result<(), LiveFault>
+        ensures { self.new.master ≡ self.old.master }
+    {
+        let from = refusal_end(self.time, body.filters.as_ref());
+        let ids = body.offer_ids.as_slice();
+        self.cluster.accepted(ids, plan.kept.as_slice(), from)?;
+        self.send_statuses(plan.refused.as_slice())
+    }
+
+    fn send_statuses(&mut self, statuses: &[TaskStatus]) -> Result<(), LiveFault>
+        ensures { self.new.master ≡ self.old.master }
+    {
+        for status in statuses {
+            self.send_status(status)?;
+        }
+        Ok(())
+    }
+}
+
+/// Returns the plan for an ACCEPT.
+fn launch_plan(alloc: Global, master: &Master, body: &Accept) -> Result<LaunchPlan, NoMemory>
+    // What is launched fits the offers that the call takes.
+    ensures { IfOk result (λ plan. Fits (named body.now.offer_ids master.now.outstanding)
+        plan.kept.items) }
+{
+    let outstanding = master.outstanding();
+    let ids = body.offer_ids.as_slice();
+    let operations = body.operations.as_slice();
+    let mut plan = LaunchPlan {
+        kept: Vec::new(alloc),
+        refused: Vec::new(alloc),
+    };
+    if !all_there(outstanding, ids) {
+        lose_all(alloc, operations, NOT_THERE, &mut plan.refused)?;
+        return Ok(plan);
+    }
+    let offers = TakenOffers::of(alloc, outstanding, ids)?;
+    if offers.are_of_one_agent() {
+        plan_on(alloc, master, &offers, operations, &mut plan)?;
+    } else {
+        lose_all(alloc, operations, TWO_AGENTS, &mut plan.refused)?;
+    }
+    Ok(plan)
+}
+
+/// Adds the tasks of an ACCEPT of these offers to an empty plan.
+fn plan_on(
+    alloc: Global,
+    master: &Master,
+    offers: &TakenOffers<'_>,
+    operations: &[Operation],
+    plan: &mut LaunchPlan,
+) -> Result<(), NoMemory>
+    ensures { OnOk result (Fits offers.now plan.new.kept.items) }
+{
+    plan_all(alloc, master, offers, operations, plan)?;
+    if unfitting_resource(offers, plan.kept.as_slice()).is_none() {
+        return Ok(());
+    }
+    fit_each(alloc, offers, plan)
+}
+
+/// Refuses all tasks, because of their offers.
+fn lose_all(
+    alloc: Global,
+    operations: &[Operation],
+    why: &str,
+    refused: &mut Vec<TaskStatus>,
+) -> Result<(), NoMemory> {
+    for operation in operations {
+        let Operation::Launch { task_infos } = operation;
+        lose_group(alloc, task_infos.as_slice(), why, refused)?;
+    }
+    Ok(())
+}
+
+fn lose_group(
+    alloc: Global,
+    tasks: &[TaskInfo],
+    why: &str,
+    refused: &mut Vec<TaskStatus>,
+) -> Result<(), NoMemory> {
+    for task in tasks {
+        refused.push(task_lost(alloc, task, why)?)?;
+    }
+    Ok(())
+}
+
+/// Adds the tasks to the plan, whether they fit the offers or not.
+fn plan_all(
+    alloc: Global,
+    master: &Master,
+    offers: &TakenOffers<'_>,
+    operations: &[Operation],
+    plan: &mut LaunchPlan,
+) -> Result<(), NoMemory> {
+    for operation in operations {
+        let Operation::Launch { task_infos } = operation;
+        plan_group(alloc, master, offers, task_infos.as_slice(), plan)?;
+    }
+    Ok(())
+}
+
+fn plan_group(
+    alloc: Global,
+    master: &Master,
+    offers: &TakenOffers<'_>,
+    tasks: &[TaskInfo],
+    plan: &mut LaunchPlan,
+) -> Result<(), NoMemory> {
+    for task in tasks {
+        match refusal_of(alloc, master, offers, plan.kept.as_slice(), task)? {
+            Some(message) => plan.refused.push(task_error(alloc, task, message)?)?,
+            None => plan.kept.push(task.copy(alloc)?)?,
+        }
+    }
+    Ok(())
+}
+
+/// Returns the message for a task that was launched before, or is for another agent than the offers.
+/// `kept` are the tasks of the call before it.
+fn refusal_of(
+    alloc: Global,
+    master: &Master,
+    offers: &TakenOffers<'_>,
+    kept: &[TaskInfo],
+    task: &TaskInfo,
+) -> Result<Option<Text>, NoMemory> {
+    if master.has_launched(&task.task_id) || is_among(kept, &task.task_id) {
+        let text = message(
+            alloc,
+            "Task has a duplicate id: ",
+            task.task_id.value.as_str(),
+        )?;
+        return Ok(Some(text));
+    }
+    if !offers.are_of(&task.agent_id) {
+        let text = message(
+            alloc,
+            "Offers are not of agent ",
+            task.agent_id.value.as_str(),
+        )?;
+        return Ok(Some(text));
+    }
+    Ok(None)
+}
+
+fn is_among(tasks: &[TaskInfo], id: &Id) -> bool {
+    tasks.iter().any(|task| &task.task_id == id)
+}
+
+/// Retains only the tasks that fit the offers, each beside those retained before it.
+fn fit_each(alloc: Global, offers: &TakenOffers<'_>, plan: &mut LaunchPlan) -> Result<(), NoMemory>
+    ensures { OnOk result (Fits offers.now plan.new.kept.items) }
+{
+    let tasks = mem::replace(&mut plan.kept, Vec::new(alloc));
+    for task in tasks {
+        fit_one(alloc, offers, task, plan)?;
+    }
+    Ok(())
+}
+
+/// Retains a task, unless it does not fit the offers beside the retained ones.
+fn fit_one(
+    alloc: Global,
+    offers: &TakenOffers<'_>,
+    task: TaskInfo,
+    plan: &mut LaunchPlan,
+) -> Result<(), NoMemory>
+    requires { Fits offers.now plan.old.kept.items }
+    ensures { OnOk result (Fits offers.now plan.new.kept.items) }
+{
+    plan.kept.push(task)?;
+    let Some(resource) = unfitting_resource(offers, plan.kept.as_slice()) else {
+        return Ok(());
+    };
+    let text = message(alloc, "Offers have too little of ", resource.name.as_str())?;
+    if let Some(task) = plan.kept.pop() {
+        plan.refused.push(task_error(alloc, &task, text)?)?;
+    }
+    Ok(())
+}
+
+fn message(alloc: Global, front: &str, name: &str) -> Result<Text, NoMemory> {
+    let mut text = String::new(alloc);
+    text.push_str(front)?;
+    text.push_str(name)?;
+    Ok(Text::new(text))
+}

@@ -1,0 +1,38 @@
+//! The response of a live test master to a call.
+ghost use Rattle.std.specs.Prelude.{◌≡◌};
+
+use http::StatusCode;
+use mes_double_http::StreamId;
+
+/// The response of a live test master to a call.
+#[derive(Drop)]
+pub struct Reply {
+    /// 200 for a SUBSCRIBE, 202 for another call that was carried out, 400 or 403.
+    pub status: StatusCode,
+    /// The stream that the call opened, with status 200.
+    pub opened: Option<StreamId>,
+    /// The stream that the call ended.
+    pub ended: Option<EndedStream>,
+}
+
+/// A stream that a call ended.
+#[derive(Drop)]
+pub struct EndedStream {
+    /// The id of the stream.
+    pub id: StreamId,
+    /// The bytes of its body that are not written, up to the end of the last chunk.
+    pub rest: Vec<u8>,
+}
+
+impl Reply {
+    /// Returns a response that neither opens nor ends a stream.
+    pub fn plain(status: StatusCode) -> Reply
+        ensures { result.status ≡ status }
+    {
+        Reply {
+            status,
+            opened: None,
+            ended: None,
+        }
+    }
+}
