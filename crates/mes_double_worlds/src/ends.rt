@@ -10,9 +10,9 @@ use std::alloc::Global;
 /// them.
 pub(crate) fn end_of(alloc: Global, world: &World) -> Result<String, NoMemory> {
     let mut line = String::new(alloc);
-    tell_master(&mut line, world.master())?;
-    tell_session(&mut line, world.session())?;
-    tell_waiting(&mut line, world.waiting())?;
+    report_master(&mut line, world.master())?;
+    report_session(&mut line, world.session())?;
+    report_waiting(&mut line, world.waiting())?;
     let rest = format!(in alloc;
         " | sent {} | skipped {}",
         world.sent().len(),
@@ -22,12 +22,12 @@ pub(crate) fn end_of(alloc: Global, world: &World) -> Result<String, NoMemory> {
     Ok(line)
 }
 
-fn tell_master(line: &mut String, master: &Master) -> Result<(), NoMemory> {
+fn report_master(line: &mut String, master: &Master) -> Result<(), NoMemory> {
     line.push_str("stream ")?;
     line.push_str(last_of(master))?;
-    tell_outstanding(line, master)?;
-    tell_launched(line, master)?;
-    tell_acked(line, master)
+    report_outstanding(line, master)?;
+    report_launched(line, master)?;
+    report_acked(line, master)
 }
 
 /// Returns the last character of the current stream's id, or `-`.
@@ -38,38 +38,38 @@ fn last_of(master: &Master) -> &str {
     }
 }
 
-fn tell_name(line: &mut String, name: &str) -> Result<(), NoMemory> {
+fn report_name(line: &mut String, name: &str) -> Result<(), NoMemory> {
     line.push_str(" ")?;
     line.push_str(name)?;
     Ok(())
 }
 
-fn tell_outstanding(line: &mut String, master: &Master) -> Result<(), NoMemory> {
+fn report_outstanding(line: &mut String, master: &Master) -> Result<(), NoMemory> {
     line.push_str(" | outstanding")?;
     for index in 0..master.outstanding_len() {
         if let Some(offer) = master.outstanding_at(index) {
-            tell_name(line, offer.id.value.as_str())?;
+            report_name(line, offer.id.value.as_str())?;
         }
     }
     Ok(())
 }
 
-fn tell_launched(line: &mut String, master: &Master) -> Result<(), NoMemory> {
+fn report_launched(line: &mut String, master: &Master) -> Result<(), NoMemory> {
     line.push_str(" | launched")?;
     for index in 0..master.launched_len() {
         if let Some(id) = master.launched_at(index) {
-            tell_name(line, id.value.as_str())?;
+            report_name(line, id.value.as_str())?;
         }
     }
     Ok(())
 }
 
 /// Appends the tasks of the updates that the master has recorded as acknowledged.
-fn tell_acked(line: &mut String, master: &Master) -> Result<(), NoMemory> {
+fn report_acked(line: &mut String, master: &Master) -> Result<(), NoMemory> {
     line.push_str(" | acked")?;
     for index in 0..master.acked_len() {
         if let Some(key) = master.acked_at(index) {
-            tell_name(line, key.task.value.as_str())?;
+            report_name(line, key.task.value.as_str())?;
         }
     }
     Ok(())
@@ -77,43 +77,43 @@ fn tell_acked(line: &mut String, master: &Master) -> Result<(), NoMemory> {
 
 /// Appends the session's framework or `-`, whether it is connected, the outstanding offers, and the
 /// tasks of the unacknowledged updates.
-fn tell_session(line: &mut String, session: &Session) -> Result<(), NoMemory> {
+fn report_session(line: &mut String, session: &Session) -> Result<(), NoMemory> {
     line.push_str(" | framework ")?;
     line.push_str(match session.framework() {
         Some(id) => id.value.as_str(),
         None => "-",
     })?;
     line.push_str(if session.connected() { " on" } else { " off" })?;
-    tell_hand(line, session)?;
-    tell_owed(line, session)
+    report_hand(line, session)?;
+    report_owed(line, session)
 }
 
-fn tell_hand(line: &mut String, session: &Session) -> Result<(), NoMemory> {
+fn report_hand(line: &mut String, session: &Session) -> Result<(), NoMemory> {
     line.push_str(" | hand")?;
     for index in 0..session.hand_len() {
         if let Some(offer) = session.hand_at(index) {
-            tell_name(line, offer.id.value.as_str())?;
+            report_name(line, offer.id.value.as_str())?;
         }
     }
     Ok(())
 }
 
 /// Appends the tasks of the updates that the session has not acknowledged.
-fn tell_owed(line: &mut String, session: &Session) -> Result<(), NoMemory> {
+fn report_owed(line: &mut String, session: &Session) -> Result<(), NoMemory> {
     line.push_str(" | owed")?;
     for index in 0..session.owed_len() {
         if let Some(key) = session.owed_at(index) {
-            tell_name(line, key.task.value.as_str())?;
+            report_name(line, key.task.value.as_str())?;
         }
     }
     Ok(())
 }
 
 /// Appends the types of the queued events.
-fn tell_waiting(line: &mut String, waiting: &[Event]) -> Result<(), NoMemory> {
+fn report_waiting(line: &mut String, waiting: &[Event]) -> Result<(), NoMemory> {
     line.push_str(" | waiting")?;
     for event in waiting {
-        tell_name(line, name_of(event))?;
+        report_name(line, name_of(event))?;
     }
     Ok(())
 }

@@ -30,7 +30,7 @@ fn reported(alloc: Global, moves: &[Move]) -> Result<String, NoMemory> {
 }
 
 /// Prints the final world of the moves, or that memory ran out.
-fn tell(rt: &HostRuntime, moves: &[Move]) -> io::Result<()> {
+fn print_world(rt: &HostRuntime, moves: &[Move]) -> io::Result<()> {
     match reported(rt.alloc(), moves) {
         Ok(end) => println!(rt; "{end}"),
         Err(NoMemory) => println!(rt; "no memory"),
@@ -43,7 +43,7 @@ fn take(rt: &HostRuntime, moves: &mut Vec<Move>, line: &str) -> io::Result<()> {
     match read_line(rt.alloc(), line) {
         Some(Line::Move(next)) => moves.push(next)?,
         Some(Line::End) => {
-            tell(rt, moves.as_slice())?;
+            print_world(rt, moves.as_slice())?;
             moves.clear();
         }
         None => println!(rt; "no move: {line}")?,

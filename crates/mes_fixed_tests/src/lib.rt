@@ -3,3 +3,7 @@
 
 #[cfg(test)]
 mod numbers;
+#[cfg(test)]
+mod readings;
+#[cfg(test)]
+mod support;

@@ -1,5 +1,5 @@
 //! Worked examples of chunked bodies.
-use crate::support::{as_text, told_end};
+use crate::support::{as_text, end_text};
 use mes_frame::*;
 use std::alloc::{AllocError, Global};
 
@@ -19,7 +19,7 @@ fn first_end(text: &[u8]) -> Option<(usize, ChunkOut)> {
 }
 
 // The number of data bytes that the decoder expects next, after the given bytes.
-fn room_behind(text: &[u8]) -> u64 {
+fn remaining_after(text: &[u8]) -> u64 {
     let mut state = ChunkState::default();
     for byte in text {
         state.step(*byte);
@@ -56,7 +56,7 @@ const ENDS: [(&[u8], &str); 22] = [
 #[test]
 fn bodies_end_and_break_at_their_byte(rt: HostRuntime) -> Result<(), AllocError> {
     for &(body, end) in &ENDS {
-        let reported = told_end(rt.alloc(), first_end(body))?;
+        let reported = end_text(rt.alloc(), first_end(body))?;
         let text = as_text(body);
         assert_eq!(rt; reported.as_str(), end, "{text:?}");
     }
@@ -76,7 +76,7 @@ const ROOMS: [(&[u8], u64); 5] = [
 fn chunks_have_room_for_their_data(rt: HostRuntime) {
     for &(front, remaining) in &ROOMS {
         let text = as_text(front);
-        assert_eq!(rt; room_behind(front), remaining, "{text:?}");
+        assert_eq!(rt; remaining_after(front), remaining, "{text:?}");
     }
 }
 
@@ -110,8 +110,8 @@ const LONG: [(&[&[u8]], &str, u64); 9] = [
 // that are expected next.
 fn end_and_room(alloc: Global, parts: &[&[u8]]) -> Result<(String, u64), AllocError> {
     let body = parts.concat(alloc)?;
-    let remaining = room_behind(&body);
-    Ok((told_end(alloc, first_end(&body))?, remaining))
+    let remaining = remaining_after(&body);
+    Ok((end_text(alloc, first_end(&body))?, remaining))
 }
 
 #[test]
@@ -228,7 +228,7 @@ fn read_as(alloc: Global, pieces: [&[u8]; 2], data: &[u8], end: &str) -> Result<
     let ended = read_pieces(&mut body, pieces);
     let held = body.as_slice() == data;
     drop(body);
-    Ok(held && told_end(alloc, ended?)?.as_str() == end)
+    Ok(held && end_text(alloc, ended?)?.as_str() == end)
 }
 
 #[test]

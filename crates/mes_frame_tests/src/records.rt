@@ -1,5 +1,5 @@
 //! Worked examples of reading records.
-use crate::support::{as_text, told_end};
+use crate::support::{as_text, end_text};
 use mes_frame::*;
 use std::test::Fail;
 
@@ -72,7 +72,7 @@ const ENDS: [(u32, &[u8], &str); 10] = [
 fn records_end_and_break_at_their_byte(rt: HostRuntime) -> Result<(), Fail> {
     for &(limit, bytes, end) in &ENDS {
         let limit = Limit::new(limit).ok_or("a limit")?;
-        let reported = told_end(rt.alloc(), first_end(limit, bytes))?;
+        let reported = end_text(rt.alloc(), first_end(limit, bytes))?;
         let text = as_text(bytes);
         assert_eq!(rt; reported.as_str(), end, "{text:?}");
     }

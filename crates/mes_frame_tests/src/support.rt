@@ -3,7 +3,7 @@ use std::alloc::{AllocError, Global};
 use std::fmt::Debug;
 
 /// Prints the number of bytes consumed and the result that ended the input, or `no end`.
-pub(crate) fn told_end<T: Debug + Copy>(
+pub(crate) fn end_text<T: Debug + Copy>(
     alloc: Global,
     end: Option<(usize, T)>,
 ) -> Result<String, AllocError> {

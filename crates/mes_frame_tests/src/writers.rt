@@ -122,7 +122,7 @@ fn small_chunks_are_gathered(rt: HostRuntime) {
 }
 
 #[test]
-fn large_chunks_go_out_as_they_stand(rt: HostRuntime) {
+fn large_chunks_are_written_without_gathering(rt: HostRuntime) {
     // The writes: a line; data; the data's CRLF with the next line; data; the CRLF with the last
     // chunk.
     let body = [b'x'; 20_000];

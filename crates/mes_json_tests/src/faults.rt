@@ -80,7 +80,7 @@ const LITERALS_BYTES: [(&[u8], u64); 13] = [
 ];
 
 #[test]
-fn a_literal_is_spelled_out(rt: HostRuntime) {
+fn a_literal_has_all_its_letters(rt: HostRuntime) {
     expect_ends(&rt, &LITERALS_ENDS);
     expect_bytes(&rt, &LITERALS_BYTES);
 }

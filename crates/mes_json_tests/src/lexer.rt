@@ -176,15 +176,15 @@ fn a_lexer_holds_texts_and_numbers(rt: HostRuntime) -> Result<(), Fail> {
 }
 
 /// Pushes a text with an error, and then more bytes and runs; the last run is empty.
-fn push_behind_a_fault(lexer: &mut Lexer) -> Result<(), ReadFault> {
+fn push_after_a_fault(lexer: &mut Lexer) -> Result<(), ReadFault> {
     push_runs(lexer, &[b"[1"])?;
     push_bytes(lexer, b"x]")?;
     push_runs(lexer, &[b" \"more\" x {", b""])
 }
 
-fn read_behind_a_fault(alloc: Global) -> Result<Json, ReadFault> {
+fn read_after_a_fault(alloc: Global) -> Result<Json, ReadFault> {
     let mut lexer = Lexer::new(alloc);
-    push_behind_a_fault(&mut lexer)?;
+    push_after_a_fault(&mut lexer)?;
     lexer.finish()
 }
 
@@ -195,13 +195,13 @@ fn bytes_after_a_fault_change_nothing(rt: HostRuntime) {
         why: TextFaultKind::Byte,
     };
     assert_eq!(rt;
-        read_behind_a_fault(rt.alloc()).err(),
+        read_after_a_fault(rt.alloc()).err(),
         Some(ReadFault::Text(fault))
     );
 }
 
 #[test]
-fn a_run_ends_no_number(rt: HostRuntime) {
+fn a_number_can_span_runs(rt: HostRuntime) {
     let in_runs = read_by_runs(rt.alloc(), &[b"12", b"", b"3"]);
     assert!(rt; in_runs.is_ok());
     assert!(rt; same(&in_runs, &read_text(rt.alloc(), b"123")));

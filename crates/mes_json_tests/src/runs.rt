@@ -90,24 +90,24 @@ fn each_end_of_a_run_is_read(rt: HostRuntime) -> Result<(), Fail> {
 fn begins_with(
     alloc: Global,
     parts: &[&[u8]],
-    wanted: &[&[u8]],
+    expected: &[&[u8]],
     characters: &[&[u8]],
 ) -> Result<bool, Fail> {
     let bytes = joined(alloc, parts)?;
-    Ok(is_member(alloc, &bytes, wanted, characters))
+    Ok(is_member(alloc, &bytes, expected, characters))
 }
 
-fn is_member(alloc: Global, bytes: &[u8], wanted: &[&[u8]], characters: &[&[u8]]) -> bool {
+fn is_member(alloc: Global, bytes: &[u8], expected: &[&[u8]], characters: &[&[u8]]) -> bool {
     match &read_text(alloc, bytes) {
-        Ok(Json::Map(members)) => is_first(members.as_slice(), wanted, characters),
+        Ok(Json::Map(members)) => is_first(members.as_slice(), expected, characters),
         _ => false,
     }
 }
 
-fn is_first(members: &[(Text, Json)], wanted: &[&[u8]], characters: &[&[u8]]) -> bool {
+fn is_first(members: &[(Text, Json)], expected: &[&[u8]], characters: &[&[u8]]) -> bool {
     match members {
         [(name, Json::Text(text)), ..] => {
-            are_joined(name.as_str().as_bytes(), wanted)
+            are_joined(name.as_str().as_bytes(), expected)
                 && are_joined(text.as_str().as_bytes(), characters)
         }
         _ => false,

@@ -38,11 +38,11 @@ const FAULTY: [(&[u8], u64, TextFaultKind); 7] = [
     (b"1 2", 2, TextFaultKind::Byte),
 ];
 
-/// Returns whether the canonical text of the tape's value is `wanted`.
-fn is_written(alloc: Global, tape: &Tape, wanted: &[u8]) -> Result<bool, Fail> {
+/// Returns whether the canonical text of the tape's value is `expected`.
+fn is_written(alloc: Global, tape: &Tape, expected: &[u8]) -> Result<bool, Fail> {
     let json = tape.root().to_json(alloc)?;
     let out = written(alloc, &json)?;
-    Ok(out.as_slice() == wanted)
+    Ok(out.as_slice() == expected)
 }
 
 fn lexed(lexer: Lexer, bytes: &[u8]) -> Result<Tape, ReadFault> {
@@ -56,18 +56,18 @@ fn tape_of_tree(alloc: Global, text: &[u8]) -> Result<Tape, Fail> {
     Ok(Tape::of_json(alloc, &json)?)
 }
 
-fn is_read_so(alloc: Global, tape: Tape, wanted: &[u8]) -> Result<bool, Fail> {
-    let same = is_written(alloc, &tape, wanted);
+fn is_read_so(alloc: Global, tape: Tape, expected: &[u8]) -> Result<bool, Fail> {
+    let same = is_written(alloc, &tape, expected);
     drop(tape);
     same
 }
 
 #[test]
 fn a_tape_holds_the_value_of_its_text(rt: HostRuntime) -> Result<(), Fail> {
-    for &(text, wanted) in &WRITTEN {
+    for &(text, expected) in &WRITTEN {
         let same = [
-            is_read_so(rt.alloc(), read_tape(rt.alloc(), text)?, wanted)?,
-            is_read_so(rt.alloc(), tape_of_tree(rt.alloc(), text)?, wanted)?,
+            is_read_so(rt.alloc(), read_tape(rt.alloc(), text)?, expected)?,
+            is_read_so(rt.alloc(), tape_of_tree(rt.alloc(), text)?, expected)?,
         ];
         assert_eq!(rt; same, [true; 2], "{text:?}");
     }
@@ -85,16 +85,16 @@ fn faults(alloc: Global, bytes: &[u8]) -> [Option<ReadFault>; 2] {
 #[test]
 fn a_tape_is_refused_at_the_first_fault(rt: HostRuntime) {
     for &(bytes, byte, why) in &FAULTY {
-        let wanted = Some(ReadFault::Text(TextFault { byte, why }));
-        assert_eq!(rt; faults(rt.alloc(), bytes), [wanted, wanted]);
+        let expected = Some(ReadFault::Text(TextFault { byte, why }));
+        assert_eq!(rt; faults(rt.alloc(), bytes), [expected, expected]);
     }
 }
 
 /// Reads a text in the memory of an older tape. Returns its tape, if the canonical text is
-/// `wanted`.
-fn read_on(alloc: Global, older: Tape, text: &[u8], wanted: &[u8]) -> Result<Tape, Fail> {
+/// `expected`.
+fn read_on(alloc: Global, older: Tape, text: &[u8], expected: &[u8]) -> Result<Tape, Fail> {
     let tape = lexed(Lexer::reusing(alloc, older), text)?;
-    if is_written(alloc, &tape, wanted)? {
+    if is_written(alloc, &tape, expected)? {
         Ok(tape)
     } else {
         Err("a value that is written so")?
@@ -104,8 +104,8 @@ fn read_on(alloc: Global, older: Tape, text: &[u8], wanted: &[u8]) -> Result<Tap
 #[test]
 fn a_lexer_reads_on_in_the_memory_of_a_tape(rt: HostRuntime) -> Result<(), Fail> {
     let mut tape = read_tape(rt.alloc(), b"[\"an older text\", 17]")?;
-    for &(text, wanted) in &WRITTEN {
-        tape = read_on(rt.alloc(), tape, text, wanted)?;
+    for &(text, expected) in &WRITTEN {
+        tape = read_on(rt.alloc(), tape, text, expected)?;
     }
     Ok(())
 }

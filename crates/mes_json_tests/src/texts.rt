@@ -9,7 +9,7 @@ use std::test::Fail;
 
 /// Returns whether the value has the given kind and content: a boolean, the digits or characters,
 /// or the number of items or members.
-fn is_told(json: &Json, kind: &str, what: &str) -> bool {
+fn is_reported(json: &Json, kind: &str, what: &str) -> bool {
     match json {
         Json::Null => kind == "null",
         Json::Bool(truth) => kind == "truth" && *truth == (what == "true"),
@@ -81,7 +81,7 @@ const IN_SPACED: &str = "- => map 2
 /// Returns whether the value at a path in the text has the given kind and content.
 fn is_at(alloc: Global, text: &[u8], places: &str, kind: &str, what: &str) -> bool {
     match &read_text(alloc, text) {
-        Ok(json) => value_at(json, places).is_some_and(|value| is_told(value, kind, what)),
+        Ok(json) => value_at(json, places).is_some_and(|value| is_reported(value, kind, what)),
         Err(_) => false,
     }
 }
@@ -177,7 +177,7 @@ fn is_kept(alloc: Global, digits: &str, front: &[u8], end: &[u8], places: &str) 
 }
 
 #[test]
-fn numbers_are_kept_as_written(rt: HostRuntime) {
+fn numbers_are_stored_as_written(rt: HostRuntime) {
     for &digits in &NUMBERS {
         for &(front, end, places) in &AROUND {
             assert!(rt; is_kept(rt.alloc(), digits, front, end, places), "{digits}");
@@ -284,7 +284,7 @@ fn is_kept_as_string(alloc: Global, characters: &str) -> Result<bool, Fail> {
 }
 
 #[test]
-fn texts_of_any_length_are_kept(rt: HostRuntime) -> Result<(), Fail> {
+fn texts_of_any_length_are_stored(rt: HostRuntime) -> Result<(), Fail> {
     for &characters in &[
         "",
         "*",

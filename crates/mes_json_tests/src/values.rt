@@ -95,11 +95,11 @@ fn is_long(json: &Json, length: usize) -> bool {
     text_length(json, length) == Some(length) && text_length(json, usize::MAX) == Some(length)
 }
 
-/// Returns whether the canonical text is `wanted`, and `text_length` returns the length of that
+/// Returns whether the canonical text is `expected`, and `text_length` returns the length of that
 /// text.
-fn is_written(alloc: Global, json: &Json, wanted: &[u8]) -> Result<bool, Fail> {
+fn is_written(alloc: Global, json: &Json, expected: &[u8]) -> Result<bool, Fail> {
     let out = written(alloc, json)?;
-    Ok(out.as_slice() == wanted && is_long(json, wanted.len()))
+    Ok(out.as_slice() == expected && is_long(json, expected.len()))
 }
 
 /// Returns whether the value nests to `depth`, and `text` is the value's canonical text, whose
@@ -222,9 +222,9 @@ fn named(alloc: Global, name: &str) -> Result<Json, Fail> {
     Ok(Json::Map(single(alloc, member)?))
 }
 
-fn is_escaped(alloc: Global, characters: &str, wanted: &[u8]) -> Result<bool, Fail> {
+fn is_escaped(alloc: Global, characters: &str, expected: &[u8]) -> Result<bool, Fail> {
     let json = Json::Text(text(alloc, characters)?);
-    let same = is_written(alloc, &json, wanted);
+    let same = is_written(alloc, &json, expected);
     drop(json);
     same
 }
@@ -240,10 +240,10 @@ fn only_characters_that_need_it_are_escaped(rt: HostRuntime) -> Result<(), Fail>
     Ok(())
 }
 
-/// Returns whether an object with one member of this name is written as `wanted`.
-fn is_name_escaped(alloc: Global, name: &str, wanted: &[u8]) -> Result<bool, Fail> {
+/// Returns whether an object with one member of this name is written as `expected`.
+fn is_name_escaped(alloc: Global, name: &str, expected: &[u8]) -> Result<bool, Fail> {
     let json = named(alloc, name)?;
-    let same = is_written(alloc, &json, wanted);
+    let same = is_written(alloc, &json, expected);
     drop(json);
     same
 }
@@ -252,9 +252,9 @@ fn is_name_escaped(alloc: Global, name: &str, wanted: &[u8]) -> Result<bool, Fai
 #[test]
 fn names_are_escaped_as_strings_are(rt: HostRuntime) -> Result<(), Fail> {
     for &(characters, expected) in &ESCAPES {
-        let wanted = [b"{", expected, b":null}"].concat(rt.alloc())?;
+        let expected = [b"{", expected, b":null}"].concat(rt.alloc())?;
         assert!(rt;
-            is_name_escaped(rt.alloc(), characters, &wanted)?,
+            is_name_escaped(rt.alloc(), characters, &expected)?,
             "{characters}"
         );
     }

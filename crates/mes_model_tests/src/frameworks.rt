@@ -87,7 +87,7 @@ const FROM_ROLES: &str = r#"{"user":"u","name":"n","roles":"r"} => roles WrongKi
 {"capabilities":null,"user":"u","name":"n","capabilities":null} => capabilities Twice
 "#;
 
-/// Invalid texts with two or more faults, of which the first is reported.
+/// Invalid texts with two or more faults. The first one is reported.
 const FIRST: &str = r#"{"capabilities":1,"principal":1,"user":"u","name":"n"} => principal WrongKind
 {"principal":1,"hostname":1,"user":"u","name":"n"} => hostname WrongKind
 {"hostname":1,"roles":1,"user":"u","name":"n"} => roles WrongKind

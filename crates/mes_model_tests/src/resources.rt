@@ -4,7 +4,7 @@ use crate::support::{expect_faults, expect_values};
 use mes_model::{Attribute, Resource};
 use std::test::Fail;
 
-/// Invalid texts with a fault of the member `name`, or with two faults, of which one is first.
+/// Invalid texts with a fault of the member `name`, or with two faults. The first one is reported.
 const NAMES: &str = r#"[] => . WrongKind
 {"type":"SET","set":{}} => name Missing
 {"name":null,"type":"SET","set":{}} => name Missing

@@ -279,7 +279,9 @@ fn statuses_are_written_in_the_order_of_their_table(rt: HostRuntime) -> Result<(
 }
 
 #[test]
-fn a_status_with_a_uuid_and_an_agent_owes_a_key(rt: HostRuntime) -> Result<(), Fail> {
+fn a_status_with_a_uuid_and_an_agent_requires_an_acknowledgement(
+    rt: HostRuntime,
+) -> Result<(), Fail> {
     for (text, owed) in OWING {
         assert_eq!(rt; owes(rt.alloc(), text)?, owed.is_some(), "{text}");
         expect_owed(&rt, text, owed)?;

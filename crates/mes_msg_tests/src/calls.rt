@@ -66,7 +66,7 @@ fn calls_are_written(rt: HostRuntime) -> Result<(), Fail> {
 }
 
 #[test]
-fn other_bytes_are_no_text(rt: HostRuntime) {
+fn other_bytes_are_not_json(rt: HostRuntime) {
     let answer = Call::read_record(rt.alloc(), br#"{"type":"REVIVE",}"#);
     assert_eq!(rt; text_fault_of(answer), Some((17, TextFaultKind::Byte)));
 }

@@ -55,7 +55,7 @@ fn a_deep_event_above_the_limit_is_too_large(rt: HostRuntime) -> Result<(), Fail
 }
 
 #[test]
-fn what_is_written_is_read_again(rt: HostRuntime) -> Result<(), Fail> {
+fn a_written_event_is_read_again(rt: HostRuntime) -> Result<(), Fail> {
     let text = deep_offers(rt.alloc(), MOST_OBJECTS)?;
     let written = rewritten::<Event>(rt.alloc(), text.as_slice())?;
     let again = rewritten::<Event>(rt.alloc(), written.as_slice())?;
@@ -69,7 +69,7 @@ const OFFERS: &str =
 
 // The law `value_returned` needs an event, and no allocator.
 #[test]
-fn an_event_at_hand_is_read_back(rt: HostRuntime) -> Result<(), Fail> {
+fn the_law_of_returned_values_needs_no_allocator(rt: HostRuntime) -> Result<(), Fail> {
     let event: Event = record_of(rt.alloc(), OFFERS.as_bytes())?;
     value_returned(&event);
     Ok(())
@@ -98,7 +98,7 @@ const OTHER: [&str; 6] = [
 ];
 
 /// Returns whether `OtherName::new` returns the name as the error, because it is a known type.
-fn is_handed_back(alloc: Global, name: &str) -> Result<bool, Fail> {
+fn is_returned(alloc: Global, name: &str) -> Result<bool, Fail> {
     let text = Text::new(String::from_str(alloc, name)?);
     match OtherName::new(text) {
         Ok(_) => Ok(false),
@@ -116,9 +116,9 @@ fn is_other(alloc: Global, name: &str) -> Result<bool, Fail> {
 }
 
 #[test]
-fn known_names_are_handed_back(rt: HostRuntime) -> Result<(), Fail> {
+fn known_names_are_not_other_names(rt: HostRuntime) -> Result<(), Fail> {
     for &name in &KNOWN {
-        assert!(rt; is_handed_back(rt.alloc(), name)?, "{name}");
+        assert!(rt; is_returned(rt.alloc(), name)?, "{name}");
     }
     for &name in &OTHER {
         assert!(rt; is_other(rt.alloc(), name)?, "{name}");

@@ -182,7 +182,7 @@ const NO_TEXTS: [(&str, u64, TextFaultKind); 5] = [
 ];
 
 #[test]
-fn other_bytes_are_no_text(rt: HostRuntime) {
+fn other_bytes_are_not_json(rt: HostRuntime) {
     for &(text, byte, why) in &NO_TEXTS {
         let answer = Event::read_record(rt.alloc(), text.as_bytes());
         assert_eq!(rt; text_fault_of(answer), Some((byte, why)), "{text}");
@@ -191,7 +191,7 @@ fn other_bytes_are_no_text(rt: HostRuntime) {
 
 // Arrays nested to the limit `MAX_NESTING` are a JSON text, but no event.
 #[test]
-fn arrays_are_no_event(rt: HostRuntime) -> Result<(), Fail> {
+fn arrays_are_not_events(rt: HostRuntime) -> Result<(), Fail> {
     let mut text = Vec::new(rt.alloc());
     text.extend_from_slice(&[b'['; MAX_NESTING])?;
     text.extend_from_slice(&[b']'; MAX_NESTING])?;
@@ -205,7 +205,7 @@ fn arrays_are_no_event(rt: HostRuntime) -> Result<(), Fail> {
 
 // Arrays nested deeper than `MAX_NESTING` are not accepted as a JSON text.
 #[test]
-fn deeper_arrays_are_no_text(rt: HostRuntime) {
+fn deeper_arrays_are_not_json(rt: HostRuntime) {
     let answer = Event::read_record(rt.alloc(), &[b'['; MAX_NESTING + 1]);
     assert_eq!(rt;
         text_fault_of(answer),

@@ -1,6 +1,6 @@
 //! Logs that are read: the result of each, and the place of its fault.
 
-use crate::support::{BROKEN, CALLED, SUBSCRIBED, told_of};
+use crate::support::{BROKEN, CALLED, SUBSCRIBED, reported_text};
 use std::alloc::Global;
 use std::process::Abort;
 use std::test::Fail;
@@ -10,7 +10,7 @@ type Row = (&'static [u8], &'static str);
 
 fn expect<A: Abort>(rt: &A, alloc: Global, rows: &[Row]) -> Result<(), Fail> {
     for (log, words) in rows {
-        let reported = told_of(alloc, log)?;
+        let reported = reported_text(alloc, log)?;
         assert_eq!(rt; reported.as_str(), *words);
     }
     Ok(())
@@ -108,7 +108,7 @@ fn a_log_of_version_1_has_no_break_and_no_later_header(rt: HostRuntime) -> Resul
         let mut log = Vec::new(rt.alloc());
         log.extend_from_slice(SUBSCRIBED)?;
         log.extend_from_slice(more)?;
-        let reported = told_of(rt.alloc(), log.as_slice())?;
+        let reported = reported_text(rt.alloc(), log.as_slice())?;
         assert_eq!(rt; reported.as_str(), words);
     }
     Ok(())

@@ -140,6 +140,6 @@ pub(crate) fn reported<S: Source>(
 }
 
 /// Reads a log from bytes and prints the result.
-pub(crate) fn told_of(alloc: Global, log: &[u8]) -> Result<String, Fail> {
+pub(crate) fn reported_text(alloc: Global, log: &[u8]) -> Result<String, Fail> {
     reported(alloc, &mut MemorySource::new(log, 512), READS)
 }

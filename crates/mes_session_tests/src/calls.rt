@@ -116,7 +116,7 @@ E {"type":"UPDATE","update":{"status":{"task_id":{"value":"T1"},"state":"TASK_RU
 "#;
 
 #[test]
-fn a_call_that_is_made_is_the_call_that_may_be_said(rt: HostRuntime) -> Result<(), Fail> {
+fn a_made_call_may_be_sent(rt: HostRuntime) -> Result<(), Fail> {
     for &script in &[
         BEFORE,
         PLAIN,

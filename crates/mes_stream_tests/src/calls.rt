@@ -39,7 +39,7 @@ fn reported(alloc: Global, stream: &[u8]) -> Result<String, Fail> {
     Ok(format!(in alloc; "{end} after {used} of {bytes}, asked {calls}")?)
 }
 
-fn told_of_row(alloc: Global, text: &str) -> Result<String, Fail> {
+fn reported_row(alloc: Global, text: &str) -> Result<String, Fail> {
     let stream = stream_of(alloc, text)?;
     let reported = reported(alloc, stream.as_slice());
     drop(stream);
@@ -49,7 +49,7 @@ fn told_of_row(alloc: Global, text: &str) -> Result<String, Fail> {
 fn expect_rows<R: Abort + AllocGlobal>(rt: &R, rows: &str) -> Result<(), Fail> {
     for row in rows.lines() {
         let (stream, expected) = row_of(row)?;
-        let reported = told_of_row(rt.alloc(), stream)?;
+        let reported = reported_row(rt.alloc(), stream)?;
         assert_eq!(rt; reported.as_str(), expected, "{row}");
     }
     Ok(())

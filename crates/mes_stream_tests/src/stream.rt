@@ -86,7 +86,7 @@ fn reported(decoder: &mut Decoder, piece: &[u8]) -> (&'static str, usize) {
     (name_of(&step.out), step.used)
 }
 
-fn told_at_end(decoder: &Decoder) -> &'static str {
+fn end_name(decoder: &Decoder) -> &'static str {
     name_of_end(&decoder.finish())
 }
 
@@ -127,7 +127,7 @@ fn take_piece(
 // an error.
 fn take_end(alloc: Global, decoder: &Decoder, used: usize, found: &mut String) -> Result<(), Fail> {
     push_answer(alloc, found, "more", used)?;
-    push_answer(alloc, found, told_at_end(decoder), used)
+    push_answer(alloc, found, end_name(decoder), used)
 }
 
 // Decodes two consecutive pieces, and the end of the input.
@@ -255,7 +255,7 @@ fn expect_byte<R: Abort>(rt: &R, decoder: &mut Decoder, at: usize, byte: u8) {
         _ => "more",
     };
     assert_eq!(rt; reported(decoder, &[byte]), (answer, 1), "{at}");
-    assert_eq!(rt; told_at_end(decoder) == "end", at == 142);
+    assert_eq!(rt; end_name(decoder) == "end", at == 142);
 }
 
 // No byte is used after the end.
@@ -278,7 +278,7 @@ fn expect_two_records<R: Abort>(rt: &R, decoder: &mut Decoder) {
     assert_eq!(rt; reported(decoder, TWO_AND_MORE), ("HEARTBEAT", 27));
     assert_eq!(rt; reported(decoder, &TWO_AND_MORE[27..]), ("HEARTBEAT", 23));
     assert_eq!(rt; reported(decoder, &TWO_AND_MORE[50..]), ("more", 5));
-    assert_eq!(rt; told_at_end(decoder), "F6 EndsInsideChunks");
+    assert_eq!(rt; end_name(decoder), "F6 EndsInsideChunks");
 }
 
 #[test]
@@ -297,11 +297,11 @@ fn expect_kept_fault<R: Abort>(rt: &R, decoder: &mut Decoder) {
     let fault = reported(decoder, b"01234567890123456X");
     assert_eq!(rt; (fault, held(decoder)), (("F4 BadChunkEnd", 18), 0));
     assert_eq!(rt; reported(decoder, b"0\r\n\r\n"), ("F4 BadChunkEnd", 0));
-    assert_eq!(rt; told_at_end(decoder), "F4 BadChunkEnd");
+    assert_eq!(rt; end_name(decoder), "F4 BadChunkEnd");
 }
 
 #[test]
-fn a_fault_is_kept_and_nothing_is_held(rt: HostRuntime) {
+fn a_fault_is_final_and_nothing_is_buffered(rt: HostRuntime) {
     let mut decoder = decoder(rt.alloc());
     expect_kept_fault(&rt, &mut decoder);
 }

@@ -14,27 +14,27 @@ pub(crate) fn answer(alloc: Global, row: &str, words: &mut Words) -> Result<(), 
     let (what, text) = row.split_once(' ').unwrap_or((row, ""));
     let bytes = bytes_of(text)?;
     match what {
-        "stream" => tell_head(bytes.as_slice(), words),
-        "answer" => tell_answer(bytes.as_slice(), words),
-        _ => tell_request(alloc, bytes.as_slice(), words),
+        "stream" => report_head(bytes.as_slice(), words),
+        "answer" => report_answer(bytes.as_slice(), words),
+        _ => report_request(alloc, bytes.as_slice(), words),
     }
 }
 
 // Prints the stream id in the head of the response to a SUBSCRIBE.
-fn tell_head(bytes: &[u8], words: &mut Words) -> Result<(), Reported> {
+fn report_head(bytes: &[u8], words: &mut Words) -> Result<(), Reported> {
     let id = read_head(&mut MemorySource::new(bytes, MAX_READ))?;
     words.say(id.as_str());
     Ok(())
 }
 
-fn tell_answer(bytes: &[u8], words: &mut Words) -> Result<(), Reported> {
+fn report_answer(bytes: &[u8], words: &mut Words) -> Result<(), Reported> {
     read_answer(&mut MemorySource::new(bytes, MAX_READ))?;
     words.say("taken");
     Ok(())
 }
 
 // Prints the stream id of a request, or `-`, and its body.
-fn tell_request(alloc: Global, bytes: &[u8], words: &mut Words) -> Result<(), Reported> {
+fn report_request(alloc: Global, bytes: &[u8], words: &mut Words) -> Result<(), Reported> {
     let request = request_of(alloc, bytes)?;
     say_request(&request, words);
     Ok(())

@@ -2,10 +2,10 @@
 
 use crate::bytes::{Bytes, bytes_of};
 use crate::messages::{call_text, event_text};
-use crate::outcome::{Reported, refusal_behind};
+use crate::outcome::{Reported, refusal_after};
 use crate::parsing::look_at;
 use crate::words::Words;
-use crate::writing::tell_sent;
+use crate::writing::report_sent;
 use mes_frame::{FromStd, MemorySource};
 use mes_msg::{Entry, Limit};
 use mes_session::{Session, read_log, replay, write_log};
@@ -21,7 +21,7 @@ pub(crate) fn answer(alloc: Global, row: &str, words: &mut Words) -> Result<(), 
     let (what, text) = row.split_once(' ').unwrap_or((row, ""));
     let mut entries = Vec::new(alloc);
     read(alloc, text, &mut entries, words)?;
-    tell(alloc, what, entries.as_slice(), words)
+    report_log(alloc, what, entries.as_slice(), words)
 }
 
 // Reads and prints the entries of a log. After an error prints the entries that precede it, and the
@@ -34,10 +34,10 @@ fn read(
 ) -> Result<(), Reported> {
     let bytes = bytes_of(text)?;
     let report = read_once(alloc, bytes.as_slice(), entries);
-    let reported = tell_entries(alloc, entries.as_slice(), words);
+    let reported = report_entries(alloc, entries.as_slice(), words);
     let was_refused = words.say_answer(reported);
-    let next = tell_end(entries.len() as u64, report, words);
-    words.go_on_behind(was_refused, next)
+    let next = report_end(entries.len() as u64, report, words);
+    words.continue_after(was_refused, next)
 }
 
 fn read_once(alloc: Global, bytes: &[u8], entries: &mut Vec<Entry>) -> Result<Report, Stop> {
@@ -46,14 +46,14 @@ fn read_once(alloc: Global, bytes: &[u8], entries: &mut Vec<Entry>) -> Result<Re
 }
 
 // Prints the letter of each entry and the entry's canonical text.
-fn tell_entries(alloc: Global, entries: &[Entry], words: &mut Words) -> Result<(), Reported> {
+fn report_entries(alloc: Global, entries: &[Entry], words: &mut Words) -> Result<(), Reported> {
     for entry in entries {
-        tell_entry(alloc, entry, words)?;
+        report_entry(alloc, entry, words)?;
     }
     Ok(())
 }
 
-fn tell_entry(alloc: Global, entry: &Entry, words: &mut Words) -> Result<(), Reported> {
+fn report_entry(alloc: Global, entry: &Entry, words: &mut Words) -> Result<(), Reported> {
     match entry {
         Entry::Heard(event) => say_entry("E", event_text(alloc, event)?.as_slice(), words),
         Entry::Said(call) => say_entry("C", call_text(alloc, call)?.as_slice(), words),
@@ -67,7 +67,7 @@ fn say_entry(letter: &str, text: &[u8], words: &mut Words) {
     words.add_bytes(text);
 }
 
-fn tell_end(count: u64, report: Result<Report, Stop>, words: &mut Words) -> Result<(), Reported> {
+fn report_end(count: u64, report: Result<Report, Stop>, words: &mut Words) -> Result<(), Reported> {
     say_report(count, &report?, words);
     Ok(())
 }
@@ -79,19 +79,24 @@ fn say_report(count: u64, report: &Report, words: &mut Words) {
     words.add(" bytes ");
     words.add_number(report.used);
     if !report.rest.is_empty() {
-        words.say("behind it ");
+        words.say("after it ");
         words.add_bytes(report.rest.as_slice());
     }
 }
 
-fn tell(alloc: Global, what: &str, entries: &[Entry], words: &mut Words) -> Result<(), Reported> {
+fn report_log(
+    alloc: Global,
+    what: &str,
+    entries: &[Entry],
+    words: &mut Words,
+) -> Result<(), Reported> {
     match what {
-        "replay" => tell_session(alloc, entries, words),
-        _ => tell_written(alloc, entries, words),
+        "replay" => report_session(alloc, entries, words),
+        _ => report_written(alloc, entries, words),
     }
 }
 
-fn tell_session(alloc: Global, entries: &[Entry], words: &mut Words) -> Result<(), Reported> {
+fn report_session(alloc: Global, entries: &[Entry], words: &mut Words) -> Result<(), Reported> {
     look_at(session_of(alloc, entries)?, |session| {
         say_session(session, entries.len() as u64, words)
     })
@@ -106,14 +111,14 @@ fn say_session(session: &Session, count: u64, words: &mut Words) -> Result<(), R
 fn session_of(alloc: Global, entries: &[Entry]) -> Result<Session, Reported> {
     match replay(alloc, entries) {
         Ok(session) => Ok(session),
-        Err((before, refusal)) => Err(refusal_behind(&refusal, before as u64)),
+        Err((before, refusal)) => Err(refusal_after(&refusal, before as u64)),
     }
 }
 
 // Writes the log and prints the bytes. If an allocation fails, no byte may have been written.
-fn tell_written(alloc: Global, entries: &[Entry], words: &mut Words) -> Result<(), Reported> {
+fn report_written(alloc: Global, entries: &[Entry], words: &mut Words) -> Result<(), Reported> {
     let mut written = Bytes::new();
     let mut sink = FromStd::new(&mut written);
     let answer = write_log(alloc, &mut sink, entries, Limit::USUAL);
-    tell_sent(answer, &written, words)
+    report_sent(answer, &written, words)
 }

@@ -31,13 +31,13 @@ use words::Words;
 
 fn main(rt: HostRuntime) -> io::Result<()> {
     for line in ROWS.lines() {
-        tell_row(&rt, line)?;
+        report_row(&rt, line)?;
     }
     Ok(())
 }
 
 // Runs an example row and prints its line. If an allocation fails, runs the row once more.
-fn tell_row(rt: &HostRuntime, line: &str) -> io::Result<()> {
+fn report_row(rt: &HostRuntime, line: &str) -> io::Result<()> {
     let (name, asked) = line.split_once(" => ").unwrap_or((line, ""));
     let mut words = Words::new();
     if is_refused(rt.alloc(), asked, &mut words) {
@@ -58,10 +58,10 @@ fn answer(alloc: Global, what: &str, rest: &str, words: &mut Words) -> Result<()
         "stream" => streams::answer(alloc, rest, words),
         "pieces" => pieces::answer(alloc, rest, words),
         "event" => messages::report_event(alloc, rest, words),
-        "short" => messages::tell_short(alloc, rest, words),
+        "short" => messages::report_short(alloc, rest, words),
         "call" => messages::report_call(alloc, rest, words),
-        "numbers" => numbers::tell_numbers(rest, words),
-        "resource" => messages::tell_resource(alloc, rest, words),
+        "numbers" => numbers::report_numbers(rest, words),
+        "resource" => messages::report_resource(alloc, rest, words),
         "nested" => nesting::answer(alloc, rest, words),
         "write" => writing::answer(alloc, rest, words),
         "head" => heads::answer(alloc, rest, words),

@@ -4,7 +4,7 @@ use crate::held::held_by_master;
 use crate::messages::{call_of, event_of, say_event};
 use crate::outcome::Reported;
 use crate::parsing::{ask_twice, change, look_at};
-use crate::streams::tell_events;
+use crate::streams::report_events;
 use crate::texts::text_named;
 use crate::words::Words;
 use mes_double_http::StreamId;
@@ -110,13 +110,13 @@ fn answer_call(
     words: &mut Words,
 ) -> Result<(), Reported> {
     let answer = handle(master, call, words)?;
-    tell_answer(alloc, &answer, words)
+    report_answer(alloc, &answer, words)
 }
 
 // Prints the status and the events of a response.
-fn tell_answer(alloc: Global, answer: &Answer, words: &mut Words) -> Result<(), Reported> {
+fn report_answer(alloc: Global, answer: &Answer, words: &mut Words) -> Result<(), Reported> {
     words.say_number("answered", u64::from(answer.status.as_u16()));
-    tell_events(alloc, answer.events.as_slice(), words)
+    report_events(alloc, answer.events.as_slice(), words)
 }
 
 // Handles a call, and repeats this once if an allocation fails.
@@ -142,11 +142,11 @@ fn send_like(
     words: &mut Words,
 ) -> Result<(), Reported> {
     look_at(event_of(alloc, text.as_bytes())?, |event| {
-        send_told(alloc, master, event, words)
+        send_reported(alloc, master, event, words)
     })
 }
 
-fn send_told(
+fn send_reported(
     alloc: Global,
     master: &mut Master,
     event: &Event,
@@ -167,11 +167,11 @@ fn note_like(
     words: &mut Words,
 ) -> Result<(), Reported> {
     look_at(event_of(alloc, text.as_bytes())?, |event| {
-        note_told(master, event, words)
+        note_reported(master, event, words)
     })
 }
 
-fn note_told(master: &mut Master, event: &Event, words: &mut Words) -> Result<(), Reported> {
+fn note_reported(master: &mut Master, event: &Event, words: &mut Words) -> Result<(), Reported> {
     match event {
         Event::Offers(offers) => note(master, Sending::NotedOffers(offers.as_slice()), words),
         Event::Update(body) => note(master, Sending::NotedUpdate(body.status.get()), words),

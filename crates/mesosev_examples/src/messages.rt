@@ -15,13 +15,13 @@ const WORD: &[u8] = b"tree ";
 /// event, and the event read again from its canonical text, have the same canonical text.
 pub(crate) fn report_event(alloc: Global, text: &str, words: &mut Words) -> Result<(), Reported> {
     let event = event_of(alloc, text.as_bytes())?;
-    tell_texts(alloc, &event, words)
+    report_texts(alloc, &event, words)
 }
 
-fn tell_texts(alloc: Global, event: &Event, words: &mut Words) -> Result<(), Reported> {
+fn report_texts(alloc: Global, event: &Event, words: &mut Words) -> Result<(), Reported> {
     let canonical = event_text(alloc, event)?;
     words.say_bytes(canonical.as_slice());
-    tell_lines(alloc, event, words)?;
+    report_lines(alloc, event, words)?;
     let copied = canon_of_copy(alloc, event)?;
     words.say_same("copied", copied.as_slice() == canonical.as_slice());
     let read = canon_of_text(alloc, canonical.as_slice(), Limit::USUAL)?;
@@ -51,24 +51,24 @@ pub(crate) fn say_event(alloc: Global, event: &Event, words: &mut Words) -> Resu
 }
 
 // Prints the lines of an event, and whether they are the same when they are appended to a buffer.
-fn tell_lines(alloc: Global, event: &Event, words: &mut Words) -> Result<(), Reported> {
+fn report_lines(alloc: Global, event: &Event, words: &mut Words) -> Result<(), Reported> {
     let lines = event.show_lines(alloc, 1)?;
     words.say_bytes(lines.as_slice());
-    let following = lines_behind(alloc, event)?;
+    let following = lines_after(alloc, event)?;
     words.say_same(
         "appended",
-        behind_word(following.as_slice()) == Some(lines.as_slice()),
+        after_word(following.as_slice()) == Some(lines.as_slice()),
     );
     Ok(())
 }
 
 // Appends the lines to a buffer that contains `WORD`. If an allocation fails, the buffer must still
 // begin with `WORD`; a part of the lines may follow.
-fn lines_behind(alloc: Global, event: &Event) -> Result<Vec<u8>, Reported> {
+fn lines_after(alloc: Global, event: &Event) -> Result<Vec<u8>, Reported> {
     let mut lines = word(alloc)?;
     match event.push_lines(1, &mut lines) {
         Ok(()) => Ok(lines),
-        Err(refused) => Err(Reported::from(refused).or_changed(behind_word(
+        Err(refused) => Err(Reported::from(refused).or_changed(after_word(
             lines.as_slice(),
         ).is_some())),
     }
@@ -85,7 +85,7 @@ fn canon_of_text(alloc: Global, text: &[u8], limit: Limit) -> Result<Vec<u8>, Re
 }
 
 /// Reads an event, and prints its canonical text under a record limit of 24 bytes.
-pub(crate) fn tell_short(alloc: Global, text: &str, words: &mut Words) -> Result<(), Reported> {
+pub(crate) fn report_short(alloc: Global, text: &str, words: &mut Words) -> Result<(), Reported> {
     let limit = Limit::new(24).unwrap_or(Limit::USUAL);
     let canonical = canon_of_text(alloc, text.as_bytes(), limit)?;
     words.say_bytes(canonical.as_slice());
@@ -115,7 +115,11 @@ pub(crate) fn call_text(alloc: Global, call: &Call) -> Result<Vec<u8>, Reported>
 }
 
 /// Reads a resource, and prints the text that is written for it.
-pub(crate) fn tell_resource(alloc: Global, text: &str, words: &mut Words) -> Result<(), Reported> {
+pub(crate) fn report_resource(
+    alloc: Global,
+    text: &str,
+    words: &mut Words,
+) -> Result<(), Reported> {
     let resource = resource_of(alloc, text)?;
     say_resource(alloc, &resource, words)
 }
@@ -153,7 +157,7 @@ pub(crate) fn text_of(alloc: Global, tree: &json::Json) -> Result<Vec<u8>, Repor
 }
 
 /// Returns the bytes after `WORD`, if the text begins with `WORD`.
-pub(crate) fn behind_word(text: &[u8]) -> Option<&[u8]> {
+pub(crate) fn after_word(text: &[u8]) -> Option<&[u8]> {
     if text.get(..WORD.len()) == Some(WORD) {
         text.get(WORD.len()..)
     } else {

@@ -1,7 +1,7 @@
 //! Example rows that read nested JSON arrays of the maximum depth, or deeper, at once or byte by
 //! byte.
 
-use crate::messages::{behind_word, event_of, text_of, tree_of};
+use crate::messages::{after_word, event_of, text_of, tree_of};
 use crate::outcome::Reported;
 use crate::words::Words;
 use mes_model_schema::json::{self, Lexer, MAX_NESTING, ReadFault};
@@ -50,7 +50,7 @@ fn compare_text(
     words: &mut Words,
 ) -> Result<(), Reported> {
     let written = text_of(alloc, tree)?;
-    words.say_same("written", behind_word(written.as_slice()) == Some(text));
+    words.say_same("written", after_word(written.as_slice()) == Some(text));
     Ok(())
 }
 

@@ -6,14 +6,14 @@ use arrayvec::ArrayString;
 use mes_model_schema::fixed::{NumFault, Thousandths};
 
 /// Reads numbers, and prints each in thousandths and as it is written, or the error in its text.
-pub(crate) fn tell_numbers(texts: &str, words: &mut Words) -> Result<(), Reported> {
+pub(crate) fn report_numbers(texts: &str, words: &mut Words) -> Result<(), Reported> {
     for text in texts.split(' ') {
-        tell_number(text, words);
+        report_number(text, words);
     }
     Ok(())
 }
 
-fn tell_number(text: &str, words: &mut Words) {
+fn report_number(text: &str, words: &mut Words) {
     match Thousandths::read(text.as_bytes()) {
         Ok(number) => {
             let mut written = ArrayString::new();

@@ -97,7 +97,7 @@ impl From<SendFault> for Reported {
 
 impl From<Stop> for Reported {
     fn from(stop: Stop) -> Reported {
-        fault_behind(&stop.fault, stop.used)
+        fault_after(&stop.fault, stop.used)
     }
 }
 
@@ -117,7 +117,7 @@ impl From<Refusal> for Reported {
         if matches!(refusal, Refusal::NoMemory) {
             return Reported::NoMemory;
         }
-        refusal_told(&refusal, 0)
+        reported_refusal(&refusal, 0)
     }
 }
 
@@ -135,7 +135,7 @@ impl From<MasterRefusal> for Reported {
 }
 
 /// Converts the error in a stream or a log, which was detected after `used` bytes.
-pub(crate) fn fault_behind(fault: &Fault, used: u64) -> Reported {
+pub(crate) fn fault_after(fault: &Fault, used: u64) -> Reported {
     if matches!(fault, Fault::NoMemory) {
         return Reported::NoMemoryAfter(used);
     }
@@ -145,14 +145,14 @@ pub(crate) fn fault_behind(fault: &Fault, used: u64) -> Reported {
 }
 
 /// Converts the reason for which a session rejects a log entry, after `before` entries.
-pub(crate) fn refusal_behind(refusal: &Refusal, before: u64) -> Reported {
+pub(crate) fn refusal_after(refusal: &Refusal, before: u64) -> Reported {
     if matches!(refusal, Refusal::NoMemory) {
         return Reported::NoMemoryIn(before.saturating_add(1));
     }
-    refusal_told(refusal, before)
+    reported_refusal(refusal, before)
 }
 
-fn refusal_told(refusal: &Refusal, before: u64) -> Reported {
+fn reported_refusal(refusal: &Refusal, before: u64) -> Reported {
     let mut line = ArrayString::<MAX_REFUSAL_LINE>::new();
     refusal_line(refusal, before, &mut line);
     Reported::fault(line.as_str())

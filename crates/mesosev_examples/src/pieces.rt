@@ -2,14 +2,14 @@
 
 use crate::bytes::bytes_of;
 use crate::messages::say_event;
-use crate::outcome::{Reported, fault_behind};
+use crate::outcome::{Reported, fault_after};
 use crate::parsing::look_at;
 use crate::words::Words;
 use mes_msg::{Event, Limit};
 use mes_stream::{Decoded, Decoder, Fault, Step};
 use std::alloc::Global;
 
-// The input of a decoder after a failed allocation, of which the decoder must use no byte.
+// The input of a decoder after a failed allocation. The decoder must use no byte of it.
 const HEARTBEAT: &[u8] = b"20\n{\"type\":\"HEARTBEAT\"}";
 
 // The outcome of one step of a decoder.
@@ -154,7 +154,7 @@ impl Answered {
             }
             Decoded::Event(event) => self.report_event(alloc, event, words),
             Decoded::End => {
-                self.tell_end(words);
+                self.report_end(words);
                 Ok(())
             }
             Decoded::Fault(Fault::NoMemory) => Ok(()),
@@ -162,7 +162,7 @@ impl Answered {
         }
     }
 
-    fn tell_more(&mut self, words: &mut Words) {
+    fn report_more(&mut self, words: &mut Words) {
         if self.more > 0 {
             words.say_number("more", self.more);
         }
@@ -176,22 +176,22 @@ impl Answered {
         event: &Event,
         words: &mut Words,
     ) -> Result<(), Reported> {
-        self.tell_more(words);
+        self.report_more(words);
         say_event(alloc, event, words)?;
         words.add(" at ");
         words.add_number(self.used);
         Ok(())
     }
 
-    fn tell_end(&mut self, words: &mut Words) {
-        self.tell_more(words);
+    fn report_end(&mut self, words: &mut Words) {
+        self.report_more(words);
         words.say_number("end at", self.used);
     }
 
     // Returns the error that ends the example row.
     fn fault(&mut self, fault: &Fault, words: &mut Words) -> Reported {
-        self.tell_more(words);
-        fault_behind(fault, self.used)
+        self.report_more(words);
+        fault_after(fault, self.used)
     }
 
     // Prints the error that the end of the input reveals.

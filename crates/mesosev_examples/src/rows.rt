@@ -8,7 +8,7 @@ pub(crate) const ROWS: &str = r#"heartbeat checked => stream plain 20~{"type":"H
 nothing checked => stream plain
 two records => stream plain 20~{"type":"HEARTBEAT"}147~{"type":"UPDATE","update":{"status":{"task_id":{"value":"T1"},"state":"TASK_RUNNING","agent_id":{"value":"A1"},"uuid":"AAECAwQFBgcICQoLDA0ODw=="}}}
 record without data => stream plain 0~
-record without data behind a heartbeat => stream plain 20~{"type":"HEARTBEAT"}0~
+record without data after a heartbeat => stream plain 20~{"type":"HEARTBEAT"}0~
 first half of a pair alone => stream plain 34~{"type":"HEARTBEAT","x":"\ud800x"}
 second half of a pair alone => stream plain 33~{"type":"HEARTBEAT","x":"\udc00"}
 size line of twenty digits => stream plain 00000000000000000020~{"type":"HEARTBEAT"}
@@ -18,7 +18,7 @@ body without data => stream chunked 0||
 no body => stream chunked
 body that ends inside a record => stream chunked 2|5~|0||
 input that ends inside a chunk => stream chunked 5|20~
-bytes behind a body => stream chunked 0||XYZ
+bytes after a body => stream chunked 0||XYZ
 chunk line without a digit => stream chunked g
 chunk line that ends by a bare line feed => stream chunked 1~
 chunk size of seventeen digits => stream chunked 10000000000000000
@@ -30,15 +30,15 @@ one read allowed => stream reads-1 17|20~{"type":"HEARTBEAT"}|0||
 chunk line of 257 bytes => stream long-line
 trailers of 4,097 bytes => stream long-trailers
 body a byte a piece => pieces single 1|2|1|0|1|~|1|{|1|"|1|t|1|y|1|p|1|e|1|"|1|:|1|"|1|H|1|E|1|A|1|R|1|T|1|B|1|E|1|A|1|T|1|"|1|}|0||
-record behind another, a byte a piece => pieces single 17|20~{"type":"HEARTBEAT"}|97|147~{"type":"UPDATE","update":{"status":{"task_id":{"value":"T1"},"state":"TASK_RUNNING","agent_id":{"value":"A1"},"uuid":"AAECAwQFBgcICQoLDA0ODw=="}}}|0||
+record after another, a byte a piece => pieces single 17|20~{"type":"HEARTBEAT"}|97|147~{"type":"UPDATE","update":{"status":{"task_id":{"value":"T1"},"state":"TASK_RUNNING","agent_id":{"value":"A1"},"uuid":"AAECAwQFBgcICQoLDA0ODw=="}}}|0||
 piece with two records => pieces whole 33|20~{"type":"HEARTBEAT"}20~{"type":"HEARTBEAT"}20~{"
 heartbeat => event {"type":"HEARTBEAT"}
 update of an unknown state => event {"type":"UPDATE","update":{"status":{"task_id":{"value":"T1"},"state":"TASK_PAUSED"}}}
 update without a state => event {"type":"UPDATE","update":{"status":{"task_id":{"value":"T1"}}}}
 event of another type => event {"type":"INVERSE_OFFERS","inverse_offers":{"inverse_offers":[]}}
 offers as a bare array => event {"type":"OFFERS","offers":[{"id":{"value":"O1"},"framework_id":{"value":"F1"},"agent_id":{"value":"A1"},"hostname":"h"}]}
-message told twice => event {"type":"ERROR","error":{"message":"a","message":"a"}}
-unknown member told twice => event {"type":"HEARTBEAT","x":1,"x":2}
+message given twice => event {"type":"ERROR","error":{"message":"a","message":"a"}}
+unknown member given twice => event {"type":"HEARTBEAT","x":1,"x":2}
 status that is null => event {"type":"FAILURE","failure":{"status":null}}
 update that owes => event {"type":"UPDATE","update":{"status":{"task_id":{"value":"T1"},"state":"TASK_RUNNING","agent_id":{"value":"A1"},"uuid":"AAECAwQFBgcICQoLDA0ODw=="}}}
 event of another type above the limit => short {"type":"INVERSE_OFFERS","inverse_offers":{"inverse_offers":[]}}
@@ -55,18 +55,18 @@ heartbeat written => write plain
 heartbeat written in chunks of one byte => write chunks
 writer that fails => write failing 20~{"type":"HEARTBEAT"}
 head of a stream written => write stream-head
-head of an answer written => write answer-head
+head of a response written => write answer-head
 request written => write request {"type":"REVIVE","framework_id":{"value":"F1"}}
 head of a stream => head stream HTTP/1.1 200 OK|Content-Type: application/json|Transfer-Encoding: chunked|Mesos-Stream-Id: s1||
 head without a stream's id => head stream HTTP/1.1 200 OK|Content-Type: application/json|Transfer-Encoding: chunked||
 head of a refusal => head stream HTTP/1.1 403 Forbidden|Content-Type: application/json|Transfer-Encoding: chunked|Mesos-Stream-Id: s1||
-head of an answer => head answer HTTP/1.1 202 Accepted|Content-Length: 0|Connection: close||
+head of a response => head answer HTTP/1.1 202 Accepted|Content-Length: 0|Connection: close||
 request => head request POST /api/v1/scheduler HTTP/1.1|Host: 127.0.0.1:5050|Content-Type: application/json|Accept: application/json|Mesos-Stream-Id: s1|Connection: close|Content-Length: 47||{"type":"REVIVE","framework_id":{"value":"F1"}}
 update acknowledged => session hear SUBSCRIBED; hear UPDATE; held; make ACKNOWLEDGE; held; make ACKNOWLEDGE; held; hear UPDATE; held
-offers heard behind others => session hear SUBSCRIBED; hear OFFER; held; hear FULL; held; hear TWO_OFFERS; held; hear {"type":"RESCIND","rescind":{"offer_id":{"value":"O1"}}}; held
-updates heard behind others => session hear SUBSCRIBED; hear OFFER; hear UPDATE; hear LONG_UPDATE; held; hear UPDATE; held; make LONG_ACKNOWLEDGE; held
+offers received after others => session hear SUBSCRIBED; hear OFFER; held; hear FULL; held; hear TWO_OFFERS; held; hear {"type":"RESCIND","rescind":{"offer_id":{"value":"O1"}}}; held
+updates received after others => session hear SUBSCRIBED; hear OFFER; hear UPDATE; hear LONG_UPDATE; held; hear UPDATE; held; make LONG_ACKNOWLEDGE; held
 subscribed once more => session hear SUBSCRIBED; hear FULL; hear LONG_UPDATE; held; hear {"type":"SUBSCRIBED","subscribed":{"framework_id":{"value":"framework-of-a-long-identifier"}}}; held
-update that owes nothing => session hear SUBSCRIBED; hear {"type":"UPDATE","update":{"status":{"task_id":{"value":"T1"},"state":"TASK_RUNNING","agent_id":{"value":"A1"}}}}; held
+update that requires no acknowledgement => session hear SUBSCRIBED; hear {"type":"UPDATE","update":{"status":{"task_id":{"value":"T1"},"state":"TASK_RUNNING","agent_id":{"value":"A1"}}}}; held
 tasks that fit their offer => session hear SUBSCRIBED; hear PROCESSORS; held; make {"type":"ACCEPT","framework_id":{"value":"F1"},"accept":{"offer_ids":[{"value":"O1"}],"operations":[{"type":"LAUNCH","launch":{"task_infos":[{"name":"t","task_id":{"value":"T1"},"agent_id":{"value":"A1"},"resources":[{"name":"cpus","type":"SCALAR","scalar":{"value":0.6}}]},{"name":"t","task_id":{"value":"T2"},"agent_id":{"value":"A1"},"resources":[{"name":"cpus","type":"SCALAR","scalar":{"value":0.5}}]}]}}]}}; held
 tasks that ask for a thousandth too much => session hear SUBSCRIBED; hear PROCESSORS; make {"type":"ACCEPT","framework_id":{"value":"F1"},"accept":{"offer_ids":[{"value":"O1"}],"operations":[{"type":"LAUNCH","launch":{"task_infos":[{"name":"t","task_id":{"value":"T1"},"agent_id":{"value":"A1"},"resources":[{"name":"cpus","type":"SCALAR","scalar":{"value":0.6}}]},{"name":"t","task_id":{"value":"T2"},"agent_id":{"value":"A1"},"resources":[{"name":"cpus","type":"SCALAR","scalar":{"value":0.501}}]}]}}]}}; held
 tasks that ask for one port twice => session hear SUBSCRIBED; hear PORTS; make {"type":"ACCEPT","framework_id":{"value":"F1"},"accept":{"offer_ids":[{"value":"O1"}],"operations":[{"type":"LAUNCH","launch":{"task_infos":[{"name":"t","task_id":{"value":"T1"},"agent_id":{"value":"A1"},"resources":[{"name":"ports","type":"RANGES","ranges":{"range":[{"begin":31000,"end":31001}]}}]},{"name":"t","task_id":{"value":"T2"},"agent_id":{"value":"A1"},"resources":[{"name":"ports","type":"RANGES","ranges":{"range":[{"begin":31001,"end":31002}]}}]}]}}]}}; held
@@ -85,18 +85,18 @@ reconcile before a stream => session make {"type":"RECONCILE","framework_id":{"v
 teardown before a stream => session make {"type":"TEARDOWN","framework_id":{"value":"F1"}}; held
 subscribe => session make SUBSCRIBE; held
 offer accepted again => master call SUBSCRIBE; held; event OFFER; held; call ACCEPT; held; call ACCEPT; held; call SUBSCRIBE; held; call ACCEPT; held; rescind O1
-update told again => master call SUBSCRIBE; held; resend 0; event UPDATE; event UPDATE; resend 0
-offers made behind others => master call SUBSCRIBE; event OFFER; held; event FULL; held; note OTHER_OFFER; held; note TWO_OFFERS; rescind O1; held
-updates told behind others => master call SUBSCRIBE; event UPDATE; event LONG_UPDATE; note LATER_UPDATE; note UPDATE; resend 0; resend 1; resend 2; resend 3; held
-acknowledgements answered => master call SUBSCRIBE; call ACKNOWLEDGE; held; event UPDATE; event LONG_UPDATE; call ACKNOWLEDGE; held; call LONG_ACKNOWLEDGE; held; call ACKNOWLEDGE; held; resend 0
-statuses told again => master call SUBSCRIBE; event UPDATE; event LONG_UPDATE; event LATER_UPDATE; call {"type":"RECONCILE","framework_id":{"value":"F1"},"reconcile":{}}; call {"type":"RECONCILE","framework_id":{"value":"F1"},"reconcile":{"tasks":[{"task_id":{"value":"task-of-a-long-identifier"}},{"task_id":{"value":"T9"}}]}}; held
-tasks launched behind others => master call SUBSCRIBE; event OFFER; call ACCEPT; event FULL; held; call ACCEPT_FULL; held
+update sent again => master call SUBSCRIBE; held; resend 0; event UPDATE; event UPDATE; resend 0
+offers made after others => master call SUBSCRIBE; event OFFER; held; event FULL; held; note OTHER_OFFER; held; note TWO_OFFERS; rescind O1; held
+updates sent after others => master call SUBSCRIBE; event UPDATE; event LONG_UPDATE; note LATER_UPDATE; note UPDATE; resend 0; resend 1; resend 2; resend 3; held
+acknowledgements accepted => master call SUBSCRIBE; call ACKNOWLEDGE; held; event UPDATE; event LONG_UPDATE; call ACKNOWLEDGE; held; call LONG_ACKNOWLEDGE; held; call ACKNOWLEDGE; held; resend 0
+statuses sent again => master call SUBSCRIBE; event UPDATE; event LONG_UPDATE; event LATER_UPDATE; call {"type":"RECONCILE","framework_id":{"value":"F1"},"reconcile":{}}; call {"type":"RECONCILE","framework_id":{"value":"F1"},"reconcile":{"tasks":[{"task_id":{"value":"task-of-a-long-identifier"}},{"task_id":{"value":"T9"}}]}}; held
+tasks launched after others => master call SUBSCRIBE; event OFFER; call ACCEPT; event FULL; held; call ACCEPT_FULL; held
 calls that note nothing => master call REVIVE; held; call SUBSCRIBE; event OFFER; call REVIVE; held; call DECLINE; held; call {"type":"TEARDOWN","framework_id":{"value":"F1"}}; held; call SUBSCRIBE; event OFFER
 log replayed => log replay 67~E{"type":"SUBSCRIBED","subscribed":{"framework_id":{"value":"F1"}}}
 log with a call => log replay 67~E{"type":"SUBSCRIBED","subscribed":{"framework_id":{"value":"F1"}}}133~E{"type":"OFFERS","offers":{"offers":[{"id":{"value":"O1"},"framework_id":{"value":"F1"},"agent_id":{"value":"A1"},"hostname":"h"}]}}148~E{"type":"UPDATE","update":{"status":{"task_id":{"value":"T1"},"state":"TASK_RUNNING","agent_id":{"value":"A1"},"uuid":"AAECAwQFBgcICQoLDA0ODw=="}}}154~C{"type":"ACKNOWLEDGE","framework_id":{"value":"F1"},"acknowledge":{"agent_id":{"value":"A1"},"task_id":{"value":"T1"},"uuid":"AAECAwQFBgcICQoLDA0ODw=="}}
-log with a break => log replay 1~267~E{"type":"SUBSCRIBED","subscribed":{"framework_id":{"value":"F1"}}}133~E{"type":"OFFERS","offers":{"offers":[{"id":{"value":"O1"},"framework_id":{"value":"F1"},"agent_id":{"value":"A1"},"hostname":"h"}]}}1~B148~E{"type":"UPDATE","update":{"status":{"task_id":{"value":"T1"},"state":"TASK_RUNNING","agent_id":{"value":"A1"},"uuid":"AAECAwQFBgcICQoLDA0ODw=="}}}
+log with a disconnection => log replay 1~267~E{"type":"SUBSCRIBED","subscribed":{"framework_id":{"value":"F1"}}}133~E{"type":"OFFERS","offers":{"offers":[{"id":{"value":"O1"},"framework_id":{"value":"F1"},"agent_id":{"value":"A1"},"hostname":"h"}]}}1~B148~E{"type":"UPDATE","update":{"status":{"task_id":{"value":"T1"},"state":"TASK_RUNNING","agent_id":{"value":"A1"},"uuid":"AAECAwQFBgcICQoLDA0ODw=="}}}
 log with a call that is refused => log replay 67~E{"type":"SUBSCRIBED","subscribed":{"framework_id":{"value":"F1"}}}133~E{"type":"OFFERS","offers":{"offers":[{"id":{"value":"O1"},"framework_id":{"value":"F1"},"agent_id":{"value":"A1"},"hostname":"h"}]}}90~C{"type":"DECLINE","framework_id":{"value":"F1"},"decline":{"offer_ids":[{"value":"O1"}]}}90~C{"type":"DECLINE","framework_id":{"value":"F1"},"decline":{"offer_ids":[{"value":"O1"}]}}
 log with an unknown letter => log replay 1~X
-log with an unknown letter behind an entry => log replay 67~E{"type":"SUBSCRIBED","subscribed":{"framework_id":{"value":"F1"}}}1~X
+log with an unknown letter after an entry => log replay 67~E{"type":"SUBSCRIBED","subscribed":{"framework_id":{"value":"F1"}}}1~X
 log written again => log write 67~E{"type":"SUBSCRIBED","subscribed":{"framework_id":{"value":"F1"}}}
 log with a call written again => log write 67~E{"type":"SUBSCRIBED","subscribed":{"framework_id":{"value":"F1"}}}133~E{"type":"OFFERS","offers":{"offers":[{"id":{"value":"O1"},"framework_id":{"value":"F1"},"agent_id":{"value":"A1"},"hostname":"h"}]}}148~E{"type":"UPDATE","update":{"status":{"task_id":{"value":"T1"},"state":"TASK_RUNNING","agent_id":{"value":"A1"},"uuid":"AAECAwQFBgcICQoLDA0ODw=="}}}154~C{"type":"ACKNOWLEDGE","framework_id":{"value":"F1"},"acknowledge":{"agent_id":{"value":"A1"},"task_id":{"value":"T1"},"uuid":"AAECAwQFBgcICQoLDA0ODw=="}}"#;

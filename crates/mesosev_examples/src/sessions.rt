@@ -81,11 +81,11 @@ fn make_like(
     words: &mut Words,
 ) -> Result<(), Reported> {
     look_at(call_of(alloc, text)?, |like| {
-        tell_made(alloc, session, like, words)
+        report_made(alloc, session, like, words)
     })
 }
 
-fn tell_made(
+fn report_made(
     alloc: Global,
     session: &mut Session,
     like: &Call,

@@ -66,24 +66,24 @@ fn by_reads(max_reads: u64) -> Reading {
 fn read(alloc: Global, reading: Reading, bytes: &[u8], words: &mut Words) -> Result<(), Reported> {
     let mut events = Vec::new(alloc);
     let report = read_once(alloc, reading, bytes, &mut events);
-    tell_read(alloc, events.as_slice(), report, words)
+    report_read(alloc, events.as_slice(), report, words)
 }
 
 // The outcome is printed even if the text of an event could not be allocated.
-fn tell_read(
+fn report_read(
     alloc: Global,
     events: &[Event],
     report: Result<Report, Stop>,
     words: &mut Words,
 ) -> Result<(), Reported> {
-    let reported = tell_events(alloc, events, words);
+    let reported = report_events(alloc, events, words);
     let was_refused = words.say_answer(reported);
-    let next = tell_end(events.len() as u64, report, words);
-    words.go_on_behind(was_refused, next)
+    let next = report_end(events.len() as u64, report, words);
+    words.continue_after(was_refused, next)
 }
 
-fn tell_end(count: u64, report: Result<Report, Stop>, words: &mut Words) -> Result<(), Reported> {
-    tell_report(count, &report?, words);
+fn report_end(count: u64, report: Result<Report, Stop>, words: &mut Words) -> Result<(), Reported> {
+    report_report(count, &report?, words);
     Ok(())
 }
 
@@ -102,7 +102,7 @@ fn read_once(
 }
 
 /// Prints the canonical texts of events.
-pub(crate) fn tell_events(
+pub(crate) fn report_events(
     alloc: Global,
     events: &[Event],
     words: &mut Words,
@@ -113,12 +113,12 @@ pub(crate) fn tell_events(
     Ok(())
 }
 
-fn tell_report(count: u64, report: &Report, words: &mut Words) {
+fn report_report(count: u64, report: &Report, words: &mut Words) {
     let mut line = ArrayString::<MAX_COUNT_LINE>::new();
     count_line(count, report.used, &mut line);
     words.say(line.as_str());
     if !report.rest.is_empty() {
-        words.say("behind it ");
+        words.say("after it ");
         words.add_bytes(report.rest.as_slice());
     }
 }

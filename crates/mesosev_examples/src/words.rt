@@ -117,7 +117,7 @@ impl Words {
     /// Returns `next`, the result of the next part of an example row. If an allocation failed in
     /// the part before it, appends the error in `next` and returns `NoMemory`, so that the row is
     /// repeated.
-    pub(crate) fn go_on_behind(
+    pub(crate) fn continue_after(
         &mut self,
         was_refused: bool,
         next: Result<(), Reported>,

@@ -57,7 +57,7 @@ pub(crate) fn answer(alloc: Global, row: &str, words: &mut Words) -> Result<(), 
 }
 
 /// Prints the bytes that were written. If an allocation failed, no byte must have been written.
-pub(crate) fn tell_sent(
+pub(crate) fn report_sent(
     answer: Result<(), SendFault>,
     written: &Bytes,
     words: &mut Words,
@@ -75,7 +75,7 @@ fn write_heartbeat(alloc: Global, words: &mut Words) -> Result<(), Reported> {
     let mut written = Bytes::new();
     let mut sink = FromStd::new(&mut written);
     let answer = write_plain(alloc, &mut sink, &[Event::Heartbeat], Limit::USUAL);
-    tell_sent(answer, &written, words)
+    report_sent(answer, &written, words)
 }
 
 // Writes a HEARTBEAT as a chunked body with chunks of one byte.
@@ -83,19 +83,19 @@ fn write_chunks(alloc: Global, words: &mut Words) -> Result<(), Reported> {
     let mut written = Bytes::new();
     let mut sink = FromStd::new(&mut written);
     let answer = write_stream(alloc, &mut sink, &[Event::Heartbeat], Limit::USUAL, 1);
-    tell_sent(answer, &written, words)
+    report_sent(answer, &written, words)
 }
 
 fn write_request(alloc: Global, text: &str, words: &mut Words) -> Result<(), Reported> {
     look_at(call_of(alloc, text)?, |call| {
-        tell_request(alloc, call, words)
+        report_request(alloc, call, words)
     })
 }
 
-fn tell_request(alloc: Global, call: &Call, words: &mut Words) -> Result<(), Reported> {
+fn report_request(alloc: Global, call: &Call, words: &mut Words) -> Result<(), Reported> {
     let mut written = Bytes::new();
     let answer = write_call_to(alloc, call, &mut written);
-    tell_sent(answer, &written, words)
+    report_sent(answer, &written, words)
 }
 
 fn write_call_to(alloc: Global, call: &Call, written: &mut Bytes) -> Result<(), SendFault> {
@@ -112,13 +112,13 @@ fn write_to_failing(text: &str, words: &mut Words) -> Result<(), Reported> {
     };
     let mut sink = FromStd::new(&mut failing);
     let answer = write_chunked(&mut sink, bytes.as_slice(), 4_096);
-    tell_stopped(answer, words);
+    report_stopped(answer, words);
     words.say_bytes(failing.taken.as_slice());
     Ok(())
 }
 
 // Prints the number of bytes that were sent, and the reason for which no more bytes were sent.
-fn tell_stopped(answer: Result<(), WriteFault>, words: &mut Words) {
+fn report_stopped(answer: Result<(), WriteFault>, words: &mut Words) {
     if let Err(fault) = answer {
         words.say_number("sent", fault.sent);
         words.add_word(match fault.why {
@@ -136,7 +136,7 @@ fn write_stream_head(words: &mut Words) -> Result<(), Reported> {
     let mut written = Bytes::new();
     let mut sink = FromStd::new(&mut written);
     let answer = write_ok(&mut sink, &id);
-    tell_stopped(answer, words);
+    report_stopped(answer, words);
     words.say_bytes(written.as_slice());
     Ok(())
 }
@@ -146,6 +146,6 @@ fn write_answer_head(words: &mut Words) {
     let mut written = Bytes::new();
     let mut sink = FromStd::new(&mut written);
     let answer = write_status(&mut sink, StatusCode::ACCEPTED);
-    tell_stopped(answer, words);
+    report_stopped(answer, words);
     words.say_bytes(written.as_slice());
 }

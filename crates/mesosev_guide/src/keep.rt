@@ -39,7 +39,7 @@ fn report_received(rt: &HostRuntime, session: &mut Session, text: &str) -> io::R
 fn report_accepted(rt: &HostRuntime, session: &mut Session) -> io::Result<()> {
     match accept_first(rt.alloc(), session) {
         Ok(Some(call)) => report_call(rt, &call),
-        Ok(None) => println!(rt; "no offer is in hand"),
+        Ok(None) => println!(rt; "no offer is outstanding"),
         Err(refusal) => println!(rt; "no offer is accepted: {refusal:?}"),
     }
 }
@@ -68,8 +68,8 @@ fn accept_first(alloc: Global, session: &mut Session) -> Result<Option<Call>, Re
 
 /// Prints the number of outstanding offers and of unacknowledged updates.
 fn report_session(rt: &HostRuntime, session: &Session) -> io::Result<()> {
-    let (in_hand, owed) = (session.hand_len(), session.owed_len());
-    println!(rt; "{in_hand} in hand, {owed} owed")
+    let (offers, updates) = (session.hand_len(), session.owed_len());
+    println!(rt; "{offers} offers outstanding, {updates} updates unacknowledged")
 }
 
 /// Prints the canonical text of a call, which is what is sent to the master.

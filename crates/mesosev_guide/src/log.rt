@@ -22,7 +22,7 @@ pub(crate) fn replay_log(rt: &HostRuntime) -> io::Result<()> {
 
 /// Prints the number of entries, and the state of the session after them.
 fn report_end(rt: &HostRuntime, entries: usize, session: &Session) -> io::Result<()> {
-    let (in_hand, owed) = (session.hand_len(), session.owed_len());
+    let (offers, updates) = (session.hand_len(), session.owed_len());
     println!(rt; "{entries} entries")?;
-    println!(rt; "{in_hand} in hand, {owed} owed")
+    println!(rt; "{offers} offers outstanding, {updates} updates unacknowledged")
 }

@@ -47,7 +47,7 @@ fn printed(alloc: Global, answer: &[u8], most: usize) -> Result<String, Fail> {
 }
 
 #[test]
-fn answers_are_shown(rt: HostRuntime) -> Result<(), Fail> {
+fn responses_are_shown(rt: HostRuntime) -> Result<(), Fail> {
     for row in ANSWERS.lines() {
         let (answer, expected) = row_of(row)?;
         let bytes = bytes_of(rt.alloc(), answer)?;
@@ -90,7 +90,7 @@ fn early(alloc: Global, head: &str, stream: &str, bytes: usize) -> Result<String
 
 // Each complete event is printed before the error.
 #[test]
-fn an_answer_that_ends_early_shows_the_events_before(rt: HostRuntime) -> Result<(), Fail> {
+fn a_response_that_ends_early_shows_the_events_before(rt: HostRuntime) -> Result<(), Fail> {
     let bytes = bytes_of(rt.alloc(), STREAM)?;
     for cut in 0..bytes.len() {
         let expected = early(rt.alloc(), "H3 BadHead", "F6 EndsInsideChunks", cut)?;
@@ -110,7 +110,7 @@ fn failing(alloc: Global, answer: &[u8], good: usize) -> Result<String, Fail> {
 }
 
 #[test]
-fn an_answer_whose_reader_fails_shows_the_events_before(rt: HostRuntime) -> Result<(), Fail> {
+fn a_response_whose_reader_fails_shows_the_events_before(rt: HostRuntime) -> Result<(), Fail> {
     let bytes = bytes_of(rt.alloc(), STREAM)?;
     for good in 0..bytes.len() {
         let expected = early(rt.alloc(), "H1 Read", "F14 Read", good)?;

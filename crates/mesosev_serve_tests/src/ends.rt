@@ -65,7 +65,7 @@ fn a_stream_is_shown(rt: HostRuntime) -> Result<(), Fail> {
 
 // With one byte for each read, one read too many would be detected.
 #[test]
-fn what_stands_behind_a_stream_is_not_read(rt: HostRuntime) -> Result<(), Fail> {
+fn bytes_after_a_stream_are_not_read(rt: HostRuntime) -> Result<(), Fail> {
     let answer = format!(in rt.alloc(); "{STREAM}X")?;
     let shown = followed(rt.alloc(), answer.as_str(), 1, b"X")?;
     assert_eq!(rt; shown.as_str(), SHOWN);
@@ -73,7 +73,7 @@ fn what_stands_behind_a_stream_is_not_read(rt: HostRuntime) -> Result<(), Fail> 
 }
 
 #[test]
-fn nothing_is_read_behind_a_head_that_is_refused(rt: HostRuntime) -> Result<(), Fail> {
+fn nothing_is_read_after_a_head_that_is_refused(rt: HostRuntime) -> Result<(), Fail> {
     let answer = "HTTP/1.1 403 Forbidden|Content-Length: 1||X";
     let shown = followed(rt.alloc(), answer, 64, b"X")?;
     assert_eq!(rt; shown.as_str(), "refused H4 Status 403~ 1");
@@ -163,7 +163,7 @@ fn reported(alloc: Global, fault: SendFault) -> Result<String, Fail> {
 }
 
 #[test]
-fn what_was_not_written_is_reported(rt: HostRuntime) -> Result<(), Fail> {
+fn an_unwritten_response_is_reported(rt: HostRuntime) -> Result<(), Fail> {
     let index = 0;
     let why = EncodeFaultKind::TooLarge;
     let unwritable = reported(rt.alloc(), SendFault::Encode { index, why })?;

@@ -53,7 +53,7 @@ const FORBIDDEN: &str =
     "HTTP/1.1 403 Forbidden|Content-Length: 0|Connection: close|| => 403 REVIVE~";
 
 #[test]
-fn calls_are_answered(rt: HostRuntime) -> Result<(), Fail> {
+fn calls_have_their_responses(rt: HostRuntime) -> Result<(), Fail> {
     expect_calls(&rt, &[], CALLS)
 }
 
@@ -64,7 +64,7 @@ fn reported(alloc: Global, request: &str, most: usize) -> Result<String, Fail> {
 }
 
 #[test]
-fn requests_are_answered(rt: HostRuntime) -> Result<(), Fail> {
+fn requests_have_their_responses(rt: HostRuntime) -> Result<(), Fail> {
     for row in REQUESTS.lines() {
         let (request, expected) = row_of(row)?;
         for most in [1, 4_096] {
@@ -79,22 +79,22 @@ fn requests_are_answered(rt: HostRuntime) -> Result<(), Fail> {
 }
 
 // Like `reported`. Exactly the bytes `taken` must be read, and `following` must remain unread.
-fn told_of(alloc: Global, taken: &[u8], following: &[u8]) -> Result<String, Fail> {
+fn reported_text(alloc: Global, taken: &[u8], following: &[u8]) -> Result<String, Fail> {
     let mut bytes = Vec::new(alloc);
     bytes.extend_from_slice(taken)?;
     bytes.extend_from_slice(following)?;
     let mut source = MemorySource::new(bytes.as_slice(), 4_096);
     let reported = served_anew(alloc, &mut source)?;
     if !leaves(&mut source, following)? {
-        return Err("so many bytes are taken, and none behind them")?;
+        return Err("more bytes are read than the request has")?;
     }
     Ok(reported)
 }
 
 #[test]
-fn bytes_behind_a_body_are_not_read(rt: HostRuntime) -> Result<(), Fail> {
+fn bytes_after_a_body_are_not_read(rt: HostRuntime) -> Result<(), Fail> {
     let request = bytes_of(rt.alloc(), REVIVE_REQUEST)?;
-    let reported = told_of(rt.alloc(), request.as_slice(), b" trailing bytes")?;
+    let reported = reported_text(rt.alloc(), request.as_slice(), b" trailing bytes")?;
     assert_eq!(rt; reported.as_str(), FORBIDDEN);
     Ok(())
 }
@@ -104,7 +104,7 @@ fn bytes_behind_a_body_are_not_read(rt: HostRuntime) -> Result<(), Fail> {
 fn a_head_that_is_too_long_is_not_read_on(rt: HostRuntime) -> Result<(), Fail> {
     let mut head = bytes_of(rt.alloc(), "POST / HTTP/1.1|A: ")?;
     head.resize(16_384, b'a')?;
-    let reported = told_of(rt.alloc(), head.as_slice(), &[b'a'; 3_636])?;
+    let reported = reported_text(rt.alloc(), head.as_slice(), &[b'a'; 3_636])?;
     assert_eq!(rt; reported.as_str(), BAD);
     Ok(())
 }

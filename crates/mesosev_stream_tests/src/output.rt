@@ -31,7 +31,7 @@ fn hands_on(kind: ErrorKind, closed: bool) -> bool {
 }
 
 #[test]
-fn a_failure_is_handed_on_and_a_closed_pipe_remembered(rt: HostRuntime) {
+fn a_failure_is_returned_and_a_closed_pipe_is_recorded(rt: HostRuntime) {
     assert!(rt; hands_on(ErrorKind::BrokenPipe, true));
     assert!(rt; hands_on(ErrorKind::WouldBlock, false));
     assert!(rt; hands_on(ErrorKind::StorageFull, false));

@@ -214,7 +214,7 @@ fn reads_before_failure(alloc: Global, bytes: &[u8]) -> (RunOutcome, u64) {
 
 // If the lines of a read cannot be written, no further read is made.
 #[test]
-fn nothing_is_read_behind_a_failed_output(rt: HostRuntime) -> Result<(), Fail> {
+fn nothing_is_read_after_a_failed_output(rt: HostRuntime) -> Result<(), Fail> {
     let bytes = heartbeats(rt.alloc(), 100)?;
     let reported = reads_before_failure(rt.alloc(), bytes.as_slice());
     drop(bytes);
@@ -233,7 +233,7 @@ fn writes_of_show(alloc: Global, records: usize) -> Result<u64, Fail> {
 // The lines of one read are written by one call: 22 records end in the first 512 bytes. The last
 // line is written by a call of its own.
 #[test]
-fn lines_go_out_by_few_writes(rt: HostRuntime) -> Result<(), Fail> {
+fn lines_are_written_by_few_calls(rt: HostRuntime) -> Result<(), Fail> {
     for &(records, writes) in &[(0, 1), (1, 2), (22, 2), (23, 3), (45, 4)] {
         assert_eq!(rt; writes_of_show(rt.alloc(), records)?, writes);
     }
@@ -241,7 +241,7 @@ fn lines_go_out_by_few_writes(rt: HostRuntime) -> Result<(), Fail> {
 }
 
 // The output failed after 7 bytes; `line` must be on standard error.
-fn expect_told_by<R: Abort>(rt: &R, closed: bool, err: &mut MemorySink, line: &str) {
+fn expect_reported_by<R: Abort>(rt: &R, closed: bool, err: &mut MemorySink, line: &str) {
     let status = finish(RunOutcome::OutputFailed(7), closed, err);
     assert_eq!(rt;
         (as_text(err.bytes()), status),
@@ -249,15 +249,15 @@ fn expect_told_by<R: Abort>(rt: &R, closed: bool, err: &mut MemorySink, line: &s
     );
 }
 
-fn expect_told<R: Abort + AllocGlobal>(rt: &R, closed: bool, line: &str) {
+fn expect_reported<R: Abort + AllocGlobal>(rt: &R, closed: bool, line: &str) {
     let mut err = MemorySink::new(rt.alloc(), WRITE_SIZE);
-    expect_told_by(rt, closed, &mut err, line);
+    expect_reported_by(rt, closed, &mut err, line);
 }
 
 #[test]
 fn an_output_that_failed_is_reported(rt: HostRuntime) {
-    expect_told(&rt, false, "write failed after 7\n");
-    expect_told(&rt, true, "");
+    expect_reported(&rt, false, "write failed after 7\n");
+    expect_reported(&rt, true, "");
 }
 
 // Converts into plain RecordIO, and returns the status.

@@ -187,7 +187,7 @@ fn lists_are_read_from_trees(rt: HostRuntime) -> Result<(), Fail> {
 }
 
 #[test]
-fn what_is_left_out_is_refused(rt: HostRuntime) -> Result<(), Fail> {
+fn members_that_are_left_out_are_refused(rt: HostRuntime) -> Result<(), Fail> {
     for line in LEFT_OUT.lines() {
         let (text, fault) = row_of(line)?;
         expect_fault(&rt, text, fault_of_left_out(rt.alloc(), text)?, fault)?;

@@ -101,7 +101,7 @@ fn expect_kept<R: Abort>(rt: &R, alloc: Global, kept: Kept, expected: &str) -> R
 }
 
 #[test]
-fn objects_are_kept_whole(rt: HostRuntime) -> Result<(), Fail> {
+fn objects_are_stored_whole(rt: HostRuntime) -> Result<(), Fail> {
     let alloc = rt.alloc();
     expect_written(&rt, alloc, kept(alloc)?, "{\"a\":null,\"a\":true}")?;
     expect_kept(&rt, alloc, kept(alloc)?, "{\"a\":null,\"a\":true}")?;

@@ -65,7 +65,7 @@ fn used_and_record(step: &Step<Event>) -> (usize, Option<u64>) {
 }
 
 // `done` records precede the record that is not JSON.
-fn text_fault_behind(alloc: Global, done: u64) -> (usize, Option<u64>) {
+fn text_fault_after(alloc: Global, done: u64) -> (usize, Option<u64>) {
     let body = Body::following(EventReader::new(alloc), Limit::USUAL, done);
     let mut reader = StreamReader::Plain(body);
     let step = reader.next(b"1\n[").unpacked();
@@ -78,17 +78,13 @@ fn text_fault_behind(alloc: Global, done: u64) -> (usize, Option<u64>) {
 fn records_before_are_counted(rt: HostRuntime) {
     for done in [0, 1, 7, u64::MAX] {
         let numbered = Some(done.saturating_add(1));
-        assert_eq!(rt;
-            text_fault_behind(rt.alloc(), done),
-            (3, numbered),
-            "{done}"
-        );
+        assert_eq!(rt; text_fault_after(rt.alloc(), done), (3, numbered), "{done}");
     }
 }
 
 // Feeds `rest`, then the byte `x` up to 5,000 times until the stream ends. Returns whether the
 // stream ends with an error.
-fn fails_behind(reader: &mut Reader, rest: &[u8], events: &mut Vec<Event>) -> bool {
+fn fails_after(reader: &mut Reader, rest: &[u8], events: &mut Vec<Event>) -> bool {
     let mut ended = fed(reader, rest, events);
     for _ in 0..5000 {
         if ended == Ok(None) {
@@ -102,7 +98,7 @@ fn fails_behind(reader: &mut Reader, rest: &[u8], events: &mut Vec<Event>) -> bo
 fn expect_let_go<R: Abort>(rt: &R, chunked: &mut Reader, rest: &str, events: &mut Vec<Event>) {
     let open = fed(chunked, b"1a\r\n40\n{\"type\":\"ERROR\",\"messag", events);
     assert_eq!(rt; (open, kept(chunked) > 0), (Ok(None), true));
-    let fails = fails_behind(chunked, rest.as_bytes(), events);
+    let fails = fails_after(chunked, rest.as_bytes(), events);
     assert_eq!(rt; (fails, kept(chunked)), (true, 0), "{rest}");
 }
 
@@ -123,7 +119,7 @@ fn fed_whole(alloc: Global) -> (Fed, u64) {
 // Nothing is buffered after an error inside an event (F1 to F5, and F10), and after the end of the
 // stream.
 #[test]
-fn nothing_is_kept_behind_the_end_or_a_fault(rt: HostRuntime) {
+fn nothing_is_buffered_after_the_end_or_a_fault(rt: HostRuntime) {
     expect_fault(&rt, "\r\n;");
     expect_fault(&rt, "\r\n1;");
     expect_fault(&rt, "\r\nfffffffffffffffff");
@@ -230,7 +226,7 @@ fn expect_first_stop<R: Abort + AllocGlobal>(
 }
 
 #[test]
-fn a_reading_that_stops_tells_its_bytes(rt: HostRuntime) -> Result<(), Fail> {
+fn a_reading_that_stops_reports_its_bytes(rt: HostRuntime) -> Result<(), Fail> {
     expect_first_stop(&rt, b"20\n{\"type\":\"ERROR\",\"xy", (22, None))?;
     expect_first_stop(&rt, b"x", (1, None))?;
     expect_first_stop(&rt, b"2\n{]3", (4, Some(1)))
@@ -280,7 +276,7 @@ fn expect_second_stop<R: Abort + AllocGlobal>(
 // The result reports the byte of the piece that ends the first record, so that another reader can
 // continue after that byte.
 #[test]
-fn a_second_reading_goes_on_behind_the_first_record(rt: HostRuntime) -> Result<(), Fail> {
+fn a_second_reading_continues_after_the_first_record(rt: HostRuntime) -> Result<(), Fail> {
     assert_eq!(rt; first_record(rt.alloc(), TWO_AND_NO_TEXT), Some((23, 23)));
     assert_eq!(rt; expect_second_stop(&rt, 23, &TWO_AND_NO_TEXT[23..])?, 1);
     Ok(())

@@ -21,7 +21,7 @@ const READINGS: &str = r#"0|| => end, events 0 bytes 5
 0||XYZ => end, events 0 bytes 5
 17;a|xyz => F7 BadSizeLine, events 0 bytes 7"#;
 
-fn told_chunked(alloc: Global, bytes: &[u8], most: usize) -> Result<String, Fail> {
+fn reported_chunked(alloc: Global, bytes: &[u8], most: usize) -> Result<String, Fail> {
     let (end, events, used) = read_chunked(alloc, bytes, most);
     Ok(format!(in alloc; "{end}, events {events} bytes {used}")?)
 }
@@ -29,7 +29,7 @@ fn told_chunked(alloc: Global, bytes: &[u8], most: usize) -> Result<String, Fail
 // The outcome must not depend on the size of the reads.
 fn expect_came<R: Abort + AllocGlobal>(rt: &R, bytes: &[u8], came: &str) -> Result<(), Fail> {
     for most in [1, 2, 7, 512] {
-        let reported = told_chunked(rt.alloc(), bytes, most)?;
+        let reported = reported_chunked(rt.alloc(), bytes, most)?;
         assert_eq!(rt; reported.as_str(), came, "{most}");
     }
     Ok(())
@@ -252,7 +252,7 @@ fn expect_spaces<R: Abort>(rt: &R, plain: &mut Reader, events: &mut Vec<Event>) 
 
 // The 4,000 spaces before the text of a record are not buffered.
 #[test]
-fn spaces_are_not_kept(rt: HostRuntime) {
+fn spaces_are_not_buffered(rt: HostRuntime) {
     let mut events = Vec::new(rt.alloc());
     let body = Body::new(EventReader::new(rt.alloc()), Limit::USUAL);
     let mut plain = StreamReader::Plain(body);

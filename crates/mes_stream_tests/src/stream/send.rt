@@ -175,7 +175,7 @@ fn takes_none(alloc: Global) -> MemorySink {
 }
 
 #[test]
-fn a_writer_that_takes_none_is_reported(rt: HostRuntime) -> Result<(), Fail> {
+fn a_writer_that_accepts_no_byte_is_reported(rt: HostRuntime) -> Result<(), Fail> {
     let stopped = SendFault::Write(WriteFault {
         sent: 0,
         why: WriteFaultKind::Zero,
