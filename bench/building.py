@@ -1,4 +1,4 @@
-"""Proves and builds a measuring program, in its own folder with copies of its crates."""
+"""Proves and builds a program that measures, in its own folder with copies of its crates."""
 
 import os
 import shutil
@@ -14,13 +14,13 @@ def crates(tops):
         for row in file:
             name, _, below = row.partition(":")
             rows[name] = below.split()
-    wanted, left = set(), list(tops)
+    needed, left = set(), list(tops)
     while left:
         name = left.pop()
-        if name in rows and name not in wanted:
-            wanted.add(name)
+        if name in rows and name not in needed:
+            needed.add(name)
             left += rows[name]
-    return [name for name in rows if name in wanted]
+    return [name for name in rows if name in needed]
 
 
 def copy(name, folder):

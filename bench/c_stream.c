@@ -32,7 +32,7 @@ static int read_whole(void)
 
 static int read_pieces(uint32_t flags)
 {
-    uint64_t told = 0, used_all = 0;
+    uint64_t total = 0, used_all = 0;
     mes_decoder *decoder;
     mes_event end;
     ssize_t length;
@@ -45,24 +45,24 @@ static int read_pieces(uint32_t flags)
         do {
             status = mes_decoder_many(decoder, piece + at, (size_t)length - at, &used, events, ROOM, &count);
             at += used;
-            told += count;
+            total += count;
         } while (status == MES_EVENT);
         used_all += at;
     }
     status = mes_decoder_finish(decoder, &end);
     if (status == MES_END)
-        printf("events %llu bytes %llu\n", (unsigned long long)told, (unsigned long long)used_all);
+        printf("events %llu bytes %llu\n", (unsigned long long)total, (unsigned long long)used_all);
     else
         printf("%.*s\n", (int)end.length, end.text);
     mes_decoder_free(decoder);
     return status != MES_END;
 }
 
-int main(int count, char **words)
+int main(int count, char **args)
 {
-    const char *word = count > 1 ? words[1] : "";
+    const char *mode = count > 1 ? args[1] : "";
 
-    if (strcmp(word, "whole") == 0)
+    if (strcmp(mode, "whole") == 0)
         return read_whole();
-    return read_pieces(strcmp(word, "without-texts") == 0 ? MES_WITHOUT_TEXTS : 0);
+    return read_pieces(strcmp(mode, "without-texts") == 0 ? MES_WITHOUT_TEXTS : 0);
 }

@@ -169,28 +169,28 @@ class Cluster:
             failure |= {"executor_id": {"value": "executor-" + self.word(8)}, "status": self.random.choice((0, 9, 256, -1))}
         return {"type": "FAILURE", "failure": failure}
 
-    def error(self, words):
-        return {"type": "ERROR", "error": {"message": " ".join(self.random.choices(WORDS, k=words))}}
+    def error(self, count):
+        return {"type": "ERROR", "error": {"message": " ".join(self.random.choices(WORDS, k=count))}}
 
-    def worded(self):
+    def with_text(self):
         if self.often(0.4):
             return self.error(self.random.choice((5, 30, 200)))
         event = self.update()
         event["update"]["status"]["message"] = " ".join(self.random.choices(WORDS, k=self.random.choice((5, 60, 400))))
         return event
 
-    def many_offers(self, most):
-        """Returns the text of an OFFERS of at most `most` bytes, and not much less."""
+    def many_offers(self, limit):
+        """Returns the text of an OFFERS of at most `limit` bytes, and not much less."""
         texts, length = [], 41
         while True:
-            text = spell(self.offer())
-            if texts and length + len(text) + 1 > most:
+            text = json_text(self.offer())
+            if texts and length + len(text) + 1 > limit:
                 return b'{"type":"OFFERS","offers":{"offers":[' + b",".join(texts) + b"]}}"
             texts.append(text)
             length += len(text) + 1
 
 
-def spell(event, encoder=UTF_8):
+def json_text(event, encoder=UTF_8):
     """Returns the event as a JSON text. A master escapes the solidus."""
     return encoder.encode(event).replace("/", "\\/").encode()
 
@@ -199,19 +199,19 @@ def one_record(cluster, name, number, room):
     """Returns the record with this number (from 0) of a set; `room` bytes are left to fill."""
     chance = cluster.random.random()
     if name == "heartbeats":
-        return spell(HEARTBEAT if chance < 0.98 else cluster.update() if chance < 0.99 else cluster.offers(1))
+        return json_text(HEARTBEAT if chance < 0.98 else cluster.update() if chance < 0.99 else cluster.offers(1))
     if name == "offers":
-        return spell(cluster.offers(cluster.random.randrange(1, 51)))
+        return json_text(cluster.offers(cluster.random.randrange(1, 51)))
     if name == "updates":
-        return spell(cluster.update())
+        return json_text(cluster.update())
     if name == "large":
-        most = min(LIMIT, max(room, 20_000))
+        limit = min(LIMIT, max(room, 20_000))
         # Base64 with escaped solidi turns 7 bytes into about 9.5.
-        return spell(cluster.message(most * 7 // 10)) if number % 2 else cluster.many_offers(most)
+        return json_text(cluster.message(limit * 7 // 10)) if number % 2 else cluster.many_offers(limit)
     if name == "tiny":
-        return spell(HEARTBEAT if chance < 0.5 else cluster.rescind() if chance < 0.75 else cluster.failure() if chance < 0.9
+        return json_text(HEARTBEAT if chance < 0.5 else cluster.rescind() if chance < 0.75 else cluster.failure() if chance < 0.9
                      else cluster.error(1))
-    return spell(cluster.worded(), ASCII if chance < 0.4 else UTF_8)
+    return json_text(cluster.with_text(), ASCII if chance < 0.4 else UTF_8)
 
 
 def framed_records(name, size, seed):
@@ -221,7 +221,7 @@ def framed_records(name, size, seed):
     while made < size:
         if kept_bytes < FRESH_BYTES:
             begins = number == 0 and name != "large"
-            record = spell(cluster.subscribed()) if begins else one_record(cluster, name, number, size - made)
+            record = json_text(cluster.subscribed()) if begins else one_record(cluster, name, number, size - made)
             kept.append(b"%d\n" % len(record) + record)
             kept_bytes += len(kept[-1])
         framed = kept[number % len(kept)]

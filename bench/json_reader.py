@@ -1,6 +1,8 @@
-"""Reads RecordIO from standard input with Python's json, and prints what `mesosev check` prints.
+"""usage: json_reader.py [--chunked] < FILE
 
-With --chunked the input is a chunked body. bench/run compares it with mesosev; it checks only JSON.
+Reads RecordIO with Python's json, and prints the same line as `mesosev check`. With --chunked the
+input is a chunked body. Checks that records are JSON, but not that they are events. bench/run
+compares it with mesosev.
 """
 
 import json

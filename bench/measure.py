@@ -11,7 +11,7 @@ from dataclasses import dataclass
 
 PR_SET_CHILD_SUBREAPER = 36
 
-# Short runs are repeated up to SHORT_RUNS times, or until they took LONG_ENOUGH seconds in total.
+# Short runs are repeated up to SHORT_RUNS times, or until they have taken LONG_ENOUGH seconds in total.
 SHORT_RUNS = 30
 LONG_ENOUGH = 0.4
 
@@ -43,12 +43,12 @@ def can_adopt():
 ADOPTS = can_adopt()
 
 
-def run(words, path, keep=True):
+def run(command, path, keep=True):
     """Runs a command line on a file once. Its output is returned if `keep` is set."""
     started_by = ["sh", "-c", START_AND_LEAVE, "sh"] if ADOPTS else []
     with open(path, "rb") as source, (tempfile.TemporaryFile() if keep else open(os.devnull, "wb")) as out:
         begin = time.perf_counter()
-        first = subprocess.Popen(started_by + words, stdin=source, stdout=out, stderr=subprocess.DEVNULL)
+        first = subprocess.Popen(started_by + command, stdin=source, stdout=out, stderr=subprocess.DEVNULL)
         if ADOPTS:
             first.wait()
             _, state, usage = os.wait4(-1, 0)
@@ -63,15 +63,15 @@ def run(words, path, keep=True):
     return Run(usage.ru_utime, usage.ru_stime, clock, usage.ru_maxrss, os.waitstatus_to_exitcode(state), printed)
 
 
-def best(words, path, rounds, keep=True):
+def best(command, path, rounds, keep=True):
     """Returns the least time of `rounds` runs, or of more if they are short.
 
     User and system time are divided as in the sum of all runs, because the kernel divides the time
     of a short run by its ticks only.
     """
-    runs = [run(words, path, keep) for _ in range(rounds)]
+    runs = [run(command, path, keep) for _ in range(rounds)]
     while rounds > 1 and len(runs) < SHORT_RUNS and sum(one.clock for one in runs) < LONG_ENOUGH:
-        runs.append(run(words, path, keep))
+        runs.append(run(command, path, keep))
     total = sum(one.user + one.system for one in runs)
     share = sum(one.user for one in runs) / total if total else 0.0
     least = min(one.user + one.system for one in runs)
@@ -88,23 +88,24 @@ def counter():
     return None
 
 
-def instructions(tool, words, path):
+def instructions(tool, command, path):
     """Returns the user-mode instructions of one run, or None."""
-    return {"perf": perf_count, "callgrind": callgrind_count}[tool](words, path)
+    return {"perf": perf_count, "callgrind": callgrind_count}[tool](command, path)
 
 
-def perf_count(words, path):
-    told = told_by(["perf", "stat", "-x", ",", "-e", "instructions:u", "--"] + words, path)
-    found = re.search(r"^(\d+),[^,]*,instructions:u", told, re.MULTILINE)
+def perf_count(command, path):
+    printed = error_of(["perf", "stat", "-x", ",", "-e", "instructions:u", "--"] + command, path)
+    found = re.search(r"^(\d+),[^,]*,instructions:u", printed, re.MULTILINE)
     return int(found[1]) if found else None
 
 
-def callgrind_count(words, path):
-    told = told_by(["valgrind", "--tool=callgrind", "--callgrind-out-file=/dev/null"] + words, path)
-    found = re.search(r"Collected : (\d+)", told)
+def callgrind_count(command, path):
+    printed = error_of(["valgrind", "--tool=callgrind", "--callgrind-out-file=/dev/null"] + command, path)
+    found = re.search(r"Collected : (\d+)", printed)
     return int(found[1]) if found else None
 
 
-def told_by(words, path):
+def error_of(command, path):
+    """Returns the standard error of a command line on a file."""
     with open(path, "rb") as source:
-        return subprocess.run(words, stdin=source, stdout=subprocess.DEVNULL, stderr=subprocess.PIPE).stderr.decode(errors="replace")
+        return subprocess.run(command, stdin=source, stdout=subprocess.DEVNULL, stderr=subprocess.PIPE).stderr.decode(errors="replace")

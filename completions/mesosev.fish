@@ -16,7 +16,7 @@ function __mesosev_helps
     test (count (commandline -opc)) -eq 2; and __mesosev_has help
 end
 
-# Files come only by <, which fish completes by itself.
+# A file can only follow <, which fish completes by itself.
 complete -c mesosev -f
 
 for condition in __mesosev_begins __mesosev_helps

@@ -8,7 +8,7 @@
 #include <vector>
 
 // Prints a line, which is empty for an event without a text.
-static void tell(const mes_event &event) { std::cout << std::string_view(event.text, event.length) << '\n'; }
+static void print_text(const mes_event &event) { std::cout << std::string_view(event.text, event.length) << '\n'; }
 
 int main() {
     mes_decoder *made = nullptr;
@@ -23,11 +23,11 @@ int main() {
             size_t used = 0;
             status = mes_decoder_next(decoder.get(), rest.data(), rest.size(), &used, &event);
             rest.remove_prefix(used);
-            if (MES_IS_EVENT(status)) tell(event);
+            if (MES_IS_EVENT(status)) print_text(event);
         } while (MES_IS_EVENT(status));
     }
     // std::cin does not distinguish a failed read from the end; its C stream does.
     if (status == MES_MORE && !std::ferror(stdin)) status = mes_decoder_finish(decoder.get(), &event);
-    if (MES_IS_FAULT(status)) tell(event);
+    if (MES_IS_FAULT(status)) print_text(event);
     return status == MES_END ? 0 : 1;
 }

@@ -13,7 +13,7 @@ import (
 	"unsafe"
 )
 
-func tell(event C.mes_event) {
+func printText(event C.mes_event) {
 	fmt.Println(C.GoStringN(event.text, C.int(event.length)))
 }
 
@@ -35,7 +35,7 @@ func read(decoder *C.mes_decoder) C.uint32_t {
 		for at := 0; at < length && status == C.MES_MORE; at += int(used) {
 			status = C.mes_decoder_many(decoder, unsafe.Pointer(&piece[at]), C.size_t(length-at), &used, &events[0], C.size_t(len(events)), &count)
 			for _, event := range events[:count] {
-				tell(event)
+				printText(event)
 			}
 			if status == C.MES_EVENT {
 				status = C.MES_MORE
@@ -44,7 +44,7 @@ func read(decoder *C.mes_decoder) C.uint32_t {
 	}
 	status = C.mes_decoder_finish(decoder, &end)
 	if status != C.MES_END {
-		tell(end)
+		printText(end)
 	}
 	return status
 }

@@ -13,14 +13,14 @@ struct counts {
     uint64_t line;
 };
 
-struct answer {
+struct result {
     uint64_t used;
     const uint8_t *text;
     uint64_t length;
     uint32_t kind;
 };
 
-struct answers {
+struct results {
     uint64_t used;
     uint64_t count;
     const uint8_t *texts;
@@ -33,30 +33,30 @@ struct row {
     uint64_t size;
 };
 
-_Static_assert(sizeof(struct row) == sizeof(mes_event) && sizeof(uint64_t) == sizeof(const char *), "a row lies as an event");
-_Static_assert(offsetof(struct row, start) == offsetof(mes_event, text), "a row's place lies as an event's text");
-_Static_assert(offsetof(struct row, size) == offsetof(mes_event, length), "a row's size lies as an event's length");
+_Static_assert(sizeof(struct row) == sizeof(mes_event) && sizeof(uint64_t) == sizeof(const char *), "a row has the size of an event");
+_Static_assert(offsetof(struct row, start) == offsetof(mes_event, text), "start has the offset of text");
+_Static_assert(offsetof(struct row, size) == offsetof(mes_event, length), "size has the offset of length");
 
 struct handle {
     uint8_t *at;
 };
 
 uint32_t mes_c_check(const uint8_t *bytes, size_t length, uint32_t limit, uint32_t framing, struct counts *counts,
-                     uint8_t *room, size_t place);
-uint32_t mes_c_call(const uint8_t *bytes, size_t length, uint64_t *size, uint8_t *room, size_t place);
+                     uint8_t *line, size_t room);
+uint32_t mes_c_call(const uint8_t *bytes, size_t length, uint64_t *size, uint8_t *text, size_t room);
 uint32_t mes_c_decoder_new(uint32_t limit, uint32_t framing, uint32_t texts, struct handle *slot);
-uint32_t mes_c_decoder_next(struct handle *handle, const uint8_t *bytes, size_t length, struct answer *answer);
+uint32_t mes_c_decoder_next(struct handle *handle, const uint8_t *bytes, size_t length, struct result *result);
 uint32_t mes_c_decoder_many(struct handle *handle, const uint8_t *bytes, size_t length, struct row *rows, size_t most,
-                            struct answers *answers);
-uint32_t mes_c_decoder_finish(struct handle *handle, struct answer *answer);
+                            struct results *results);
+uint32_t mes_c_decoder_finish(struct handle *handle, struct result *result);
 void mes_c_decoder_free(struct handle handle);
 
-static int is_lost(const void *bytes, size_t length)
+static int is_null(const void *bytes, size_t length)
 {
     return bytes == NULL && length > 0;
 }
 
-/* Represents a null pointer to no bytes, since the proved functions require a valid one. */
+/* Replaces a null pointer, since the proved functions require a valid one. */
 static uint8_t nothing;
 
 static const uint8_t *readable(const void *bytes)
@@ -64,10 +64,10 @@ static const uint8_t *readable(const void *bytes)
     return bytes != NULL ? bytes : &nothing;
 }
 
-static void end_text(char *room, size_t place, uint64_t length)
+static void end_text(char *text, size_t room, uint64_t length)
 {
-    if (place > 0)
-        room[length < place ? length : place - 1] = '\0';
+    if (room > 0)
+        text[length < room ? length : room - 1] = '\0';
 }
 
 PUBLIC const char *mes_version(void)
@@ -79,11 +79,11 @@ PUBLIC uint32_t mes_check(const void *bytes, size_t length, uint32_t limit, uint
                           uint64_t *events, uint64_t *used, char *line, size_t room)
 {
     struct counts counts = {0, 0, 0};
-    uint8_t *place = line != NULL ? (uint8_t *)line : &nothing;
+    uint8_t *to = line != NULL ? (uint8_t *)line : &nothing;
 
-    if (is_lost(bytes, length) || is_lost(line, room))
+    if (is_null(bytes, length) || is_null(line, room))
         return MES_BAD_POINTER;
-    uint32_t status = mes_c_check(readable(bytes), length, limit, framing, &counts, place, room > 0 ? room - 1 : 0);
+    uint32_t status = mes_c_check(readable(bytes), length, limit, framing, &counts, to, room > 0 ? room - 1 : 0);
     if (status == MES_BAD_LIMIT || status == MES_BAD_FRAMING)
         return status;
     if (events != NULL)
@@ -97,11 +97,11 @@ PUBLIC uint32_t mes_check(const void *bytes, size_t length, uint32_t limit, uint
 PUBLIC uint32_t mes_call(const void *bytes, size_t length, char *text, size_t room, size_t *size)
 {
     uint64_t counted = 0;
-    uint8_t *place = text != NULL ? (uint8_t *)text : &nothing;
+    uint8_t *to = text != NULL ? (uint8_t *)text : &nothing;
 
-    if (is_lost(bytes, length) || is_lost(text, room))
+    if (is_null(bytes, length) || is_null(text, room))
         return MES_BAD_POINTER;
-    uint32_t status = mes_c_call(readable(bytes), length, &counted, place, room > 0 ? room - 1 : 0);
+    uint32_t status = mes_c_call(readable(bytes), length, &counted, to, room > 0 ? room - 1 : 0);
     if (size != NULL)
         *size = counted;
     end_text(text, room, counted);
@@ -119,23 +119,23 @@ PUBLIC uint32_t mes_decoder_new(uint32_t limit, uint32_t framing, uint32_t flags
     return status;
 }
 
-static void tell(mes_event *event, const struct answer *answer)
+static void set_event(mes_event *event, const struct result *result)
 {
-    event->type = answer->kind;
-    event->text = answer->length > 0 ? (const char *)answer->text : NULL;
-    event->length = answer->length;
+    event->type = result->kind;
+    event->text = result->length > 0 ? (const char *)result->text : NULL;
+    event->length = result->length;
 }
 
 PUBLIC uint32_t mes_decoder_next(mes_decoder *decoder, const void *bytes, size_t length, size_t *used, mes_event *event)
 {
     struct handle handle = {(uint8_t *)decoder};
-    struct answer answer = {0, NULL, 0, 0};
+    struct result result = {0, NULL, 0, 0};
 
-    if (decoder == NULL || is_lost(bytes, length) || used == NULL || event == NULL)
+    if (decoder == NULL || is_null(bytes, length) || used == NULL || event == NULL)
         return MES_BAD_POINTER;
-    uint32_t status = mes_c_decoder_next(&handle, readable(bytes), length, &answer);
-    *used = answer.used;
-    tell(event, &answer);
+    uint32_t status = mes_c_decoder_next(&handle, readable(bytes), length, &result);
+    *used = result.used;
+    set_event(event, &result);
     return status;
 }
 
@@ -156,26 +156,26 @@ PUBLIC uint32_t mes_decoder_many(mes_decoder *decoder, const void *bytes, size_t
                                  mes_event *events, size_t most, size_t *count)
 {
     struct handle handle = {(uint8_t *)decoder};
-    struct answers answers = {0, 0, NULL};
+    struct results results = {0, 0, NULL};
 
-    if (decoder == NULL || is_lost(bytes, length) || used == NULL || events == NULL || count == NULL)
+    if (decoder == NULL || is_null(bytes, length) || used == NULL || events == NULL || count == NULL)
         return MES_BAD_POINTER;
-    uint32_t status = mes_c_decoder_many(&handle, readable(bytes), length, (struct row *)events, most, &answers);
-    *used = answers.used;
-    *count = answers.count;
-    place_texts(events, answers.count, answers.texts);
+    uint32_t status = mes_c_decoder_many(&handle, readable(bytes), length, (struct row *)events, most, &results);
+    *used = results.used;
+    *count = results.count;
+    place_texts(events, results.count, results.texts);
     return status;
 }
 
 PUBLIC uint32_t mes_decoder_finish(mes_decoder *decoder, mes_event *event)
 {
     struct handle handle = {(uint8_t *)decoder};
-    struct answer answer = {0, NULL, 0, 0};
+    struct result result = {0, NULL, 0, 0};
 
     if (decoder == NULL || event == NULL)
         return MES_BAD_POINTER;
-    uint32_t status = mes_c_decoder_finish(&handle, &answer);
-    tell(event, &answer);
+    uint32_t status = mes_c_decoder_finish(&handle, &result);
+    set_event(event, &result);
     return status;
 }
 

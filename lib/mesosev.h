@@ -36,10 +36,10 @@ enum {
     MES_BAD_POINTER = 102 /* a pointer is null that must not be */
 };
 
-/* Whether a status is the number of a fault. */
+/* Is true if a status is the number of a fault. */
 #define MES_IS_FAULT(status) ((status) >= 1 && (status) <= 16)
 
-/* Whether a status of mes_decoder_next reports an event, with or without a text. */
+/* Is true if a status of mes_decoder_next reports an event, with or without a text. */
 #define MES_IS_EVENT(status) ((status) == MES_EVENT || (status) == MES_NO_TEXT)
 
 /* The framings: concatenated records (RecordIO), or records in a chunked HTTP body. */
@@ -128,8 +128,7 @@ uint32_t mes_decoder_next(mes_decoder *decoder, const void *bytes, size_t length
  * Returns MES_EVENT if `most` events were decoded, even if all bytes were used; else MES_MORE if
  * all bytes were used; else MES_END or the number of a fault, after the events that precede it.
  * MES_BAD_POINTER leaves the decoder and the outputs unchanged.
- * mes_decoder_finish returns the line of the fault. It is the next call, so use the
- * texts before it.
+ * mes_decoder_finish returns the line of the fault. It invalidates the texts, so use them before.
  * An event for which mes_decoder_next returns MES_NO_TEXT has a null text and the length 0, as has
  * each event of a decoder without texts.
  * The texts of a call are concatenated, and are valid until the next call on the decoder. If one of

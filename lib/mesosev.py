@@ -37,7 +37,7 @@ _NAMES = ("", "SUBSCRIBED", "OFFERS", "RESCIND", "UPDATE", "MESSAGE", "FAILURE",
 _LINE = re.compile(r"fault F(\d+) (\S+)(?: record (\d+)(?: byte (\d+) (\S+)| (\S*) (\S+))?)? after (\d+)")
 
 
-# A mes_event in memory: three words. The number of its type is at the front of the first.
+# A mes_event in memory: three machine words. The first begins with the number of the type.
 _EVENT = struct.Struct("@IPN")
 
 # Returns a copy of the bytes at an address.
@@ -60,17 +60,17 @@ def _load():
     built = [os.path.join(here, name, "libmesosev.so") for name in (".", "..", "out/lib")]
     path = os.environ.get("MESOSEV_LIBRARY") or next(filter(os.path.exists, built), None) or _find_library()
     if not path:
-        raise ImportError("libmesosev is not there: build it by lib/build, or name it in MESOSEV_LIBRARY")
+        raise ImportError("libmesosev was not found: build it with lib/build, or name it in MESOSEV_LIBRARY")
     library = ctypes.CDLL(path)
     number, size, address = ctypes.c_uint32, ctypes.c_size_t, ctypes.c_void_p
-    takes = {
+    parameters = {
         "mes_check": [address, size, number, number, address, address, address, size],
         "mes_call": [address, size, address, size, address],
         "mes_decoder_new": [number, number, number, address],
         "mes_decoder_many": [address, address, size, address, address, size, address],
         "mes_decoder_finish": [address, address],
     }
-    for name, kinds in takes.items():
+    for name, kinds in parameters.items():
         getattr(library, name).argtypes = kinds
         getattr(library, name).restype = number
     library.mes_decoder_free.argtypes = [address]
@@ -96,12 +96,12 @@ class Fault(Exception):
         super().__init__(line or f"fault F{number}")
         self.number, self.line = number, line
         self.name = self.record = self.place = self.why = self.used = None
-        told = _LINE.fullmatch(line)
-        if told:
-            self.name, self.used = told[2], int(told[8])
-            self.record = int(told[3]) if told[3] else None
-            self.place = int(told[4]) if told[4] else told[6]
-            self.why = told[5] or told[7]
+        found = _LINE.fullmatch(line)
+        if found:
+            self.name, self.used = found[2], int(found[8])
+            self.record = int(found[3]) if found[3] else None
+            self.place = int(found[4]) if found[4] else found[6]
+            self.why = found[5] or found[7]
 
     def __reduce__(self):
         return type(self), (self.number, self.line), self.__dict__
@@ -140,7 +140,7 @@ def _raise_refusal(status):
     raise ValueError(_REFUSALS.get(status, f"status {status}"))
 
 
-def _asked(limit, framing):
+def _options(limit, framing):
     """Returns the two numbers if 32 bits can hold them: C would reduce them modulo 2^32."""
     for number, refusal in ((limit, 100), (framing, 101)):
         if not 0 <= number < 2**32:
@@ -164,8 +164,8 @@ class _Piece(_Bytes):
         super().__init__(data)
         # The number of bytes used, and the last status.
         self.at, self.status = 0, _MORE
-        # The last decoded events, and the types of those that the caller has not taken yet.
-        self.told = self.kinds = iter(())
+        # The events of the last call of C, and the types of those that the caller has not taken yet.
+        self.decoded = self.kinds = iter(())
 
     def goes_on(self):
         """Returns whether some bytes are still to be decoded."""
@@ -182,8 +182,8 @@ class _Piece(_Bytes):
 
 def _numbers_of(room):
     """Returns views of the types, the text addresses and the text lengths of a buffer of events."""
-    numbers, words = (memoryview(room).cast("B").cast(kind) for kind in "IN")
-    return numbers[:: _EVENT.size // numbers.itemsize], words[1::3], words[2::3]
+    numbers, sizes = (memoryview(room).cast("B").cast(kind) for kind in "IN")
+    return numbers[:: _EVENT.size // numbers.itemsize], sizes[1::3], sizes[2::3]
 
 
 class Decoder:
@@ -200,12 +200,12 @@ class Decoder:
         self._room = ctypes.create_string_buffer(self._most * _EVENT.size)
         self._kinds, self._places, self._sizes = _numbers_of(self._room)
         self._used, self._count = ctypes.c_size_t(), ctypes.c_size_t()
-        # The arguments of each call that follow the piece.
-        self._given = ctypes.byref(self._used), self._room, self._most, ctypes.byref(self._count)
+        # The arguments of mes_decoder_many that follow the piece.
+        self._arguments = ctypes.byref(self._used), self._room, self._most, ctypes.byref(self._count)
         self._piece = _Piece(b"")
         self.ended = False
         made = ctypes.c_void_p()
-        status = _library.mes_decoder_new(*_asked(limit, framing), 0 if texts else _WITHOUT_TEXTS, ctypes.byref(made))
+        status = _library.mes_decoder_new(*_options(limit, framing), 0 if texts else _WITHOUT_TEXTS, ctypes.byref(made))
         if status != _GOOD:
             _raise_refusal(status)
         self._handle = made.value
@@ -243,31 +243,31 @@ class Decoder:
         if self._handle is None:
             raise ValueError("the decoder is closed")
         if self._piece.is_left():
-            raise RuntimeError("events of the bytes before were not taken")
+            raise RuntimeError("not all events of the last piece were taken")
 
     def _take(self, piece):
         """Decodes the next events of a piece."""
         if self._handle is None:
             raise ValueError("the decoder is closed")
-        status = _library.mes_decoder_many(self._handle, piece.address + piece.at, piece.size - piece.at, *self._given)
+        status = _library.mes_decoder_many(self._handle, piece.address + piece.at, piece.size - piece.at, *self._arguments)
         if status >= 100:
             _raise_refusal(status)
         piece.at += self._used.value
         piece.status = status
         piece.kinds = iter(self._kinds[: self._count.value].tolist())
-        piece.told = self._told(piece.kinds)
+        piece.decoded = self._decoded(piece.kinds)
 
     def _events(self, piece):
         """Yields the events of a piece whose first events were decoded."""
-        yield from piece.told
+        yield from piece.decoded
         while piece.goes_on():
             self._take(piece)
-            yield from piece.told
+            yield from piece.decoded
         if piece.ends():
             self.finish()
 
-    def _told(self, kinds):
-        """Returns the last decoded events, with copies of their concatenated texts."""
+    def _decoded(self, kinds):
+        """Returns the events of the last call of C, with copies of their concatenated texts."""
         # For speed, no line of Python runs for each event.
         count = self._count.value
         sizes = self._sizes[:count].tolist()
@@ -347,9 +347,9 @@ class _Events:
         # Events that are not taken yet are in the decoder's piece, so that none is lost by a break.
         decoder = self._decoder
         while True:
-            told = decoder._piece.told
-            yield from told
-            if told is decoder._piece.told and not self._goes_on():
+            decoded = decoder._piece.decoded
+            yield from decoded
+            if decoded is decoder._piece.decoded and not self._goes_on():
                 return
 
     def __next__(self):
@@ -397,7 +397,7 @@ def check(data, framing=PLAIN, limit=LIMIT_USUAL):
     piece, counted, used = _Bytes(data), ctypes.c_uint64(), ctypes.c_uint64()
     line = ctypes.create_string_buffer(_LINE_ROOM)
     status = _library.mes_check(
-        piece.address, piece.size, *_asked(limit, framing), ctypes.byref(counted), ctypes.byref(used), line, _LINE_ROOM
+        piece.address, piece.size, *_options(limit, framing), ctypes.byref(counted), ctypes.byref(used), line, _LINE_ROOM
     )
     if status == _GOOD:
         return Counts(counted.value, used.value)
@@ -422,7 +422,7 @@ def call(data):
     if status == _GOOD:
         return text.raw[: size.value]
     if status == _NO_TEXT:
-        raise ValueError("the call has no canonical text: it is too large or too deep, or wants memory")
+        raise ValueError("the call has no canonical text: it is too large or too deep, or out of memory")
     raise Fault(status, text.raw[: size.value].decode())
 
 

@@ -1,4 +1,7 @@
-"""Tests of mesosev.py: python3 -m unittest in lib/, with MESOSEV_LIBRARY naming the library."""
+"""Tests of mesosev.py: python3 -m unittest test_mesosev in lib/. MESOSEV_LIBRARY names the library.
+
+-k WORD runs only the tests that have WORD in their name. tests/c_library.py runs them all.
+"""
 
 import copy
 import io
@@ -6,28 +9,27 @@ import json
 import os
 import pickle
 import socket
+import sys
 import threading
 import unittest
 
 import mesosev
 
-EXAMPLES = os.path.join(os.path.dirname(os.path.dirname(os.path.abspath(__file__))), "examples")
+TOP = os.path.dirname(os.path.dirname(os.path.abspath(__file__)))
+sys.path.insert(0, os.path.join(TOP, "tests"))
+import support
+from support import record
+
+BEAT = support.BEAT.encode()
 
 
 def example(name):
-    with open(os.path.join(EXAMPLES, name), "rb") as file:
+    with open(os.path.join(TOP, "examples", name), "rb") as file:
         return file.read()
 
 
-def record(text):
-    return b"%d\n%s" % (len(text), text)
-
-
-BEAT = record(b'{"type":"HEARTBEAT"}')
-
-
 class Streams(unittest.TestCase):
-    def test_events_of_the_examples(self):
+    def test_the_examples_are_decoded(self):
         plain = list(mesosev.events(io.BytesIO(example("stream.recordio"))))
         chunked = list(mesosev.events(io.BytesIO(example("stream.chunked")), mesosev.CHUNKED))
         self.assertEqual(len(plain), 13)
@@ -37,19 +39,19 @@ class Streams(unittest.TestCase):
         self.assertEqual(len(plain[2].value()["offers"]["offers"]), 2)
 
     def test_texts_are_canonical(self):
-        spelt = record(b' { "x": [1], "type" : "HEART\\u0042EAT" } ')
-        self.assertEqual([it.text for it in mesosev.events(spelt)], [b'{"type":"HEARTBEAT"}'])
+        unusual = record(b' { "x": [1], "type" : "HEART\\u0042EAT" } ')
+        self.assertEqual([it.text for it in mesosev.events(unusual)], [b'{"type":"HEARTBEAT"}'])
 
-    def test_a_type_that_is_kept_by_its_name(self):
+    def test_an_unknown_type_has_its_name(self):
         (event,) = mesosev.events(record(b'{"type":"RESCIND_INVERSE_OFFER","a":1}'))
         self.assertEqual((event.type, event.name), (0, "RESCIND_INVERSE_OFFER"))
 
-    def test_each_size_of_pieces(self):
+    def test_the_size_of_pieces_changes_nothing(self):
         whole = list(mesosev.events(example("stream.recordio")))
         for most in (1, 2, 7, 512, 100_000):
             self.assertEqual(list(mesosev.events(io.BytesIO(example("stream.recordio")), most=most)), whole)
 
-    def test_a_socket(self):
+    def test_a_socket_is_read(self):
         ours, theirs = socket.socketpair()
         sender = threading.Thread(target=lambda: (theirs.sendall(example("stream.chunked")), theirs.close()))
         sender.start()
@@ -57,19 +59,19 @@ class Streams(unittest.TestCase):
             self.assertEqual(len(list(mesosev.events(ours, mesosev.CHUNKED))), 13)
         sender.join()
 
-    def test_without_texts(self):
-        told = list(mesosev.events(BEAT * 3, texts=False))
-        self.assertEqual(told, [(8, None)] * 3)
+    def test_events_can_have_no_texts(self):
+        events = list(mesosev.events(BEAT * 3, texts=False))
+        self.assertEqual(events, [(8, None)] * 3)
         with self.assertRaises(ValueError):
-            told[0].value()
+            events[0].value()
 
-    def test_no_bytes(self):
+    def test_an_empty_stream_has_no_events(self):
         self.assertEqual(list(mesosev.events(b"")), [])
-        with self.assertRaises(mesosev.Fault) as told:
+        with self.assertRaises(mesosev.Fault) as raised:
             list(mesosev.events(b"", mesosev.CHUNKED))
-        self.assertEqual((told.exception.number, told.exception.used), (6, 0))
+        self.assertEqual((raised.exception.number, raised.exception.used), (6, 0))
 
-    def test_bytes_behind_the_end_are_told(self):
+    def test_bytes_after_the_end_are_unused(self):
         data = example("stream.chunked") + b"rest"
         for most in (1, len(data) - 2, len(data), 100_000):
             source = io.BytesIO(data)
@@ -84,7 +86,7 @@ class Streams(unittest.TestCase):
             self.assertEqual(list(decoder.feed(b"more")), [])
             self.assertEqual(decoder.unused, b"more")
 
-    def test_what_is_no_bytes(self):
+    def test_other_types_than_bytes_raise_type_error(self):
         for wrong in (3, "20", [50, 48], None):
             self.assertRaises(TypeError, mesosev.check, wrong)
             self.assertRaises(TypeError, mesosev.call, wrong)
@@ -94,22 +96,22 @@ class Streams(unittest.TestCase):
 class Sources(unittest.TestCase):
     """Sources that block, or have no bytes now."""
 
-    def left_open(self, make):
+    def read_in_parts(self, make):
         """Reads a source with a record, then no bytes now, then another record, then the end."""
         reader, writer = make()
         writer(BEAT)
         events = mesosev.events(reader)
-        told = [next(events).type]
+        types = [next(events).type]
         for how in (next, list):
             self.assertRaises(BlockingIOError, how, events)
         writer(BEAT[:7])
         self.assertRaises(BlockingIOError, next, events)
         writer(BEAT[7:])
-        told += [next(events).type]
+        types += [next(events).type]
         writer(None)
         self.assertRaises(StopIteration, next, events)
         reader.close()
-        self.assertEqual(told, [8, 8])
+        self.assertEqual(types, [8, 8])
 
     def pipe(self, buffering):
         reader, writer = os.pipe()
@@ -124,14 +126,14 @@ class Sources(unittest.TestCase):
             ours.close()
         return reader, lambda data: theirs.close() if data is None else theirs.sendall(data)
 
-    def test_no_bytes_for_now(self):
-        self.left_open(lambda: self.pipe(0))
-        self.left_open(lambda: self.pipe(4096))
-        self.left_open(lambda: self.pair(lambda ours: ours))
-        self.left_open(lambda: self.pair(lambda ours: ours.makefile("rb")))
-        self.left_open(lambda: self.pair(lambda ours: ours.makefile("rwb")))
+    def test_a_source_without_bytes_now_can_be_read_again(self):
+        self.read_in_parts(lambda: self.pipe(0))
+        self.read_in_parts(lambda: self.pipe(4096))
+        self.read_in_parts(lambda: self.pair(lambda ours: ours))
+        self.read_in_parts(lambda: self.pair(lambda ours: ours.makefile("rb")))
+        self.read_in_parts(lambda: self.pair(lambda ours: ours.makefile("rwb")))
 
-    def test_a_timeout(self):
+    def test_reading_continues_after_a_timeout(self):
         ours, theirs = socket.socketpair()
         with ours, theirs:
             ours.settimeout(0.01)
@@ -144,11 +146,11 @@ class Sources(unittest.TestCase):
             self.assertRaises(TimeoutError, next, events)
             theirs.close()
             for _ in range(2):
-                with self.assertRaises(mesosev.Fault) as told:
+                with self.assertRaises(mesosev.Fault) as raised:
                     next(events)
-                self.assertEqual(told.exception.number, 10)
+                self.assertEqual(raised.exception.number, 10)
 
-    def test_a_loop_that_is_left(self):
+    def test_no_event_is_lost_after_a_break(self):
         for make in (bytes, io.BytesIO):
             events = mesosev.events(make(BEAT * 3000))
             for _ in events:
@@ -157,12 +159,12 @@ class Sources(unittest.TestCase):
             self.assertEqual(len(list(events)), 2998)
             self.assertEqual(list(events), [])
 
-    def test_no_room_for_a_byte(self):
+    def test_a_piece_has_at_least_one_byte(self):
         for most in (0, -1):
             for source in (BEAT, io.BytesIO(BEAT)):
                 self.assertRaises(ValueError, mesosev.events, source, most=most)
 
-    def test_bytes_are_taken_at_the_call(self):
+    def test_bytes_are_copied_at_the_call(self):
         data = bytearray(BEAT * 2)
         for make in (mesosev.events, lambda piece: mesosev.Decoder().feed(memoryview(piece))):
             data[:] = BEAT * 2
@@ -172,87 +174,87 @@ class Sources(unittest.TestCase):
 
 
 class Narrow(mesosev.Decoder):
-    """A decoder that decodes one event a call of C."""
+    """A decoder that decodes one event with each call of C."""
 
     _most = 1
 
 
 class ManyEvents(unittest.TestCase):
-    def told_of(self, data, cut, make, **how):
+    def decoded(self, data, cut, make, **how):
         """Returns the events of bytes that are cut in two, then the line of the fault, if any."""
-        told = []
+        found = []
         with make(**how) as decoder:
             try:
                 for piece in (data[:cut], data[cut:]):
                     for event in decoder.feed(piece):
-                        told.append(event)
+                        found.append(event)
                 decoder.finish()
             except mesosev.Fault as fault:
-                told.append(fault.line)
-        return told
+                found.append(fault.line)
+        return found
 
-    def test_each_cut(self):
+    def test_a_cut_changes_nothing(self):
         for name, how in (("stream.recordio", {}), ("broken.recordio", {}), ("stream.chunked", {"framing": mesosev.CHUNKED})):
             data = example(name)
-            whole = self.told_of(data, 0, mesosev.Decoder, **how)
+            whole = self.decoded(data, 0, mesosev.Decoder, **how)
             self.assertEqual(len(whole), 6 if "broken" in name else 13)
             for cut in range(len(data)):
-                self.assertEqual(self.told_of(data, cut, mesosev.Decoder, **how), whole)
+                self.assertEqual(self.decoded(data, cut, mesosev.Decoder, **how), whole)
 
-    def test_a_room_of_one_event(self):
+    def test_one_event_a_call_changes_nothing(self):
         for name in ("stream.recordio", "broken.recordio"):
             for texts in (True, False):
                 data = example(name)
-                whole = self.told_of(data, 0, mesosev.Decoder, texts=texts)
+                whole = self.decoded(data, 0, mesosev.Decoder, texts=texts)
                 for cut in range(0, len(data), 7):
-                    self.assertEqual(self.told_of(data, cut, Narrow, texts=texts), whole)
+                    self.assertEqual(self.decoded(data, cut, Narrow, texts=texts), whole)
 
-    def test_more_events_than_there_is_room_for(self):
+    def test_a_piece_can_have_more_events_than_the_buffer(self):
         for count in (1023, 1024, 1025, 2048, 5000):
-            told = list(mesosev.events(BEAT * count, texts=False))
-            self.assertEqual(told, [(8, None)] * count)
-            told = list(mesosev.events(BEAT * count))
-            self.assertEqual(told, [(8, b'{"type":"HEARTBEAT"}')] * count)
+            events = list(mesosev.events(BEAT * count, texts=False))
+            self.assertEqual(events, [(8, None)] * count)
+            events = list(mesosev.events(BEAT * count))
+            self.assertEqual(events, [(8, b'{"type":"HEARTBEAT"}')] * count)
 
-    def test_a_fault_behind_events_in_one_piece(self):
+    def test_a_fault_follows_the_events_of_its_piece(self):
         for make in (mesosev.Decoder, Narrow):
-            told = self.told_of(BEAT * 3 + b"x", 0, make)
-            self.assertEqual(told, [(8, b'{"type":"HEARTBEAT"}')] * 3 + [f"fault F7 BadSizeLine after {3 * len(BEAT) + 1}"])
+            found = self.decoded(BEAT * 3 + b"x", 0, make)
+            self.assertEqual(found, [(8, b'{"type":"HEARTBEAT"}')] * 3 + [f"fault F7 BadSizeLine after {3 * len(BEAT) + 1}"])
             with make() as decoder:
                 seen = decoder.feed(BEAT * 3 + b"x")
                 self.assertEqual([next(seen).type, next(seen).type, next(seen).type, decoder.ended], [8, 8, 8, False])
                 self.assertRaises(mesosev.Fault, next, seen)
                 self.assertTrue(decoder.ended)
 
-    def test_an_event_without_a_text_among_others(self):
+    def test_one_event_among_others_can_have_no_text(self):
         # The canonical text has two more bytes, and so exceeds the limit.
         front, back = b'{"type":"SUBSCRIBED","subscribed":{"framework_id":{"value":"', b'"},"heartbeat_interval_seconds":15}}'
         large = record(front + b"a" * (mesosev.LIMIT_MOST - len(front) - len(back)) + back)
         for make in (mesosev.Decoder, Narrow):
             with make(limit=mesosev.LIMIT_MOST) as decoder:
-                told = list(decoder.feed(BEAT + large + BEAT * 2))
+                events = list(decoder.feed(BEAT + large + BEAT * 2))
             beat = (8, b'{"type":"HEARTBEAT"}')
-            self.assertEqual(told, [beat, (1, None), beat, beat])
+            self.assertEqual(events, [beat, (1, None), beat, beat])
 
-    def test_freed_early(self):
+    def test_a_decoder_can_be_closed_before_its_events_are_taken(self):
         decoder = mesosev.Decoder()
         events = decoder.feed(BEAT * 3000)
         first = next(events)
         decoder.close()
         # The events that were decoded with it are still returned.
-        told = [first]
+        found = [first]
         with self.assertRaises(ValueError):
             for event in events:
-                told.append(event)
-        self.assertEqual(told, [(8, b'{"type":"HEARTBEAT"}')] * 1024)
+                found.append(event)
+        self.assertEqual(found, [(8, b'{"type":"HEARTBEAT"}')] * 1024)
 
-    def test_events_are_left(self):
+    def test_a_decoder_with_events_left_can_be_closed(self):
         for make in (mesosev.Decoder, Narrow):
             decoder = make()
             self.assertEqual(next(decoder.feed(BEAT * 3)).type, 8)
             decoder.close()
 
-    def test_no_event_is_lost_without_a_word(self):
+    def test_feed_raises_if_events_are_left(self):
         for make in (mesosev.Decoder, Narrow):
             with make() as decoder:
                 events = decoder.feed(BEAT * 1025)
@@ -266,13 +268,13 @@ class ManyEvents(unittest.TestCase):
                 decoder.feed(BEAT)
                 self.assertRaises(RuntimeError, decoder.feed, BEAT)
 
-    def test_a_piece_without_an_event_is_taken(self):
+    def test_a_piece_without_an_event_needs_no_iteration(self):
         with mesosev.Decoder() as decoder:
             decoder.feed(BEAT[:9])
             self.assertEqual([event.type for event in decoder.feed(BEAT[9:])], [8])
             decoder.finish()
 
-    def test_copies(self):
+    def test_decoders_cannot_be_copied(self):
         with mesosev.Decoder() as decoder:
             for made in (decoder, mesosev.events(BEAT)):
                 self.assertRaises(TypeError, pickle.dumps, made)
@@ -282,18 +284,18 @@ class ManyEvents(unittest.TestCase):
 
 class Faults(unittest.TestCase):
     def fault(self, data, **how):
-        with self.assertRaises(mesosev.Fault) as told:
+        with self.assertRaises(mesosev.Fault) as raised:
             list(mesosev.events(data, **how))
-        return told.exception
+        return raised.exception
 
-    def test_a_member_that_is_wrong(self):
-        told = self.fault(example("broken.recordio"))
-        self.assertEqual((told.number, told.name, told.record), (12, "Field", 6))
-        self.assertEqual((told.place, told.why, told.used), ("update.status.state", "UnknownName", 3295))
+    def test_an_invalid_member_is_reported(self):
+        fault = self.fault(example("broken.recordio"))
+        self.assertEqual((fault.number, fault.name, fault.record), (12, "Field", 6))
+        self.assertEqual((fault.place, fault.why, fault.used), ("update.status.state", "UnknownName", 3295))
 
-    def test_a_text_that_is_wrong(self):
-        told = self.fault(BEAT + record(b"[1,]"))
-        self.assertEqual((told.number, told.record, told.place, told.why), (11, 2, 3, "Byte"))
+    def test_an_invalid_text_is_reported(self):
+        fault = self.fault(BEAT + record(b"[1,]"))
+        self.assertEqual((fault.number, fault.record, fault.place, fault.why), (11, 2, 3, "Byte"))
 
     def test_events_before_the_fault_come_first(self):
         seen = []
@@ -302,35 +304,35 @@ class Faults(unittest.TestCase):
                 seen.append(event)
         self.assertEqual(len(seen), 5)
 
-    def test_copies(self):
-        told = self.fault(example("broken.recordio"))
-        for made in (copy.copy(told), copy.deepcopy(told), pickle.loads(pickle.dumps(told))):
-            self.assertEqual((type(made), made.args, vars(made)), (mesosev.Fault, told.args, vars(told)))
+    def test_faults_can_be_copied(self):
+        fault = self.fault(example("broken.recordio"))
+        for made in (copy.copy(fault), copy.deepcopy(fault), pickle.loads(pickle.dumps(fault))):
+            self.assertEqual((type(made), made.args, vars(made)), (mesosev.Fault, fault.args, vars(fault)))
 
-    def test_the_framing(self):
+    def test_faults_of_the_framing_are_reported(self):
         self.assertEqual(self.fault(b"x").number, 7)
         self.assertEqual(self.fault(b"2\n{").number, 10)
         self.assertEqual(self.fault(b"x", framing=mesosev.CHUNKED).number, 1)
         self.assertEqual(self.fault(BEAT, limit=19).number, 9)
 
-    def test_the_fault_is_told_again(self):
+    def test_the_fault_is_raised_again(self):
         decoder = mesosev.Decoder()
         for _ in range(3):
-            with self.assertRaises(mesosev.Fault) as told:
+            with self.assertRaises(mesosev.Fault) as raised:
                 list(decoder.feed(b"x"))
-            self.assertEqual(told.exception.line, "fault F7 BadSizeLine after 1")
+            self.assertEqual(raised.exception.line, "fault F7 BadSizeLine after 1")
         with self.assertRaises(mesosev.Fault):
             decoder.finish()
         decoder.close()
 
-    def test_bad_words(self):
+    def test_invalid_options_raise_value_error(self):
         limits = (0, mesosev.LIMIT_MOST + 1, -1, 2**32 + 30, 30 - 2**32, 2**64 + 30)
         framings = (2, -1, 2**32, 2**32 + 1, 1 - 2**32)
         for how in (*({"limit": limit} for limit in limits), *({"framing": framing} for framing in framings)):
             for call in (lambda: mesosev.Decoder(**how), lambda: mesosev.events(BEAT, **how), lambda: mesosev.check(BEAT, **how)):
                 self.assertRaises(ValueError, call)
 
-    def test_a_closed_decoder(self):
+    def test_a_closed_decoder_raises_value_error(self):
         decoder = mesosev.Decoder()
         decoder.close()
         decoder.close()
@@ -339,22 +341,23 @@ class Faults(unittest.TestCase):
 
 
 class Whole(unittest.TestCase):
-    def test_check(self):
+    def test_check_counts_events_and_bytes(self):
         self.assertEqual(mesosev.check(example("stream.recordio")), (13, 4250))
         self.assertEqual(mesosev.check(example("stream.chunked"), mesosev.CHUNKED), (13, 4336))
-        with self.assertRaises(mesosev.Fault) as told:
+        with self.assertRaises(mesosev.Fault) as raised:
             mesosev.check(example("broken.recordio"))
-        self.assertEqual(told.exception.line, "fault F12 Field record 6 update.status.state UnknownName after 3295")
+        self.assertEqual(raised.exception.line, "fault F12 Field record 6 update.status.state UnknownName after 3295")
 
-    def test_call(self):
-        spelt = b' {"framework_id": {"value": "F1"}, "type": "REVIVE"} '
-        self.assertEqual(json.loads(mesosev.call(spelt)), json.loads(spelt))
-        self.assertEqual(mesosev.call(spelt), b'{"type":"REVIVE","framework_id":{"value":"F1"}}')
-        with self.assertRaises(mesosev.Fault) as told:
+    def test_call_returns_the_canonical_text(self):
+        unusual = b' {"framework_id": {"value": "F1"}, "type": "REVIVE"} '
+        self.assertEqual(json.loads(mesosev.call(unusual)), json.loads(unusual))
+        self.assertEqual(mesosev.call(unusual), b'{"type":"REVIVE","framework_id":{"value":"F1"}}')
+        with self.assertRaises(mesosev.Fault) as raised:
             mesosev.call(b'{"type":"REVIVE"}')
-        self.assertEqual((told.exception.number, told.exception.place, told.exception.why), (12, "framework_id", "Missing"))
+        fault = raised.exception
+        self.assertEqual((fault.number, fault.place, fault.why), (12, "framework_id", "Missing"))
 
-    def test_version(self):
+    def test_the_version_has_three_numbers(self):
         self.assertRegex(mesosev.version(), r"^\d+\.\d+\.\d+$")
 
 

@@ -10,8 +10,8 @@
  *   check FRAMING LIMIT ROOM   prints the status, the counts and the line
  *   call ROOM                  prints the status, the size and the text
  *   handles COUNT              uses COUNT decoders at once, each freed at another offset
- *   refuse FRAMING ROOM        fails each allocation of the library in turn; built with REFUSING
- *                              and the linker's --wrap
+ *   refuse FRAMING ROOM        makes each allocation of the library fail in turn; built with
+ *                              REFUSING and the linker's --wrap
  *   misuse                     passes null pointers and invalid arguments, and calls after the end
  */
 #include <inttypes.h>
@@ -39,8 +39,8 @@ static size_t room;
 
 /* Whether a call of the library runs; the number of allocations so far, the one that fails, and
  * whether all later ones fail too. */
-static int inside, behind;
-static long growths, refused = -1;
+static int inside, refuses_later;
+static long allocations, refused = -1;
 
 #ifdef REFUSING
 void *__real_malloc(size_t size);
@@ -50,9 +50,9 @@ void *__wrap_realloc(void *at, size_t size);
 
 static int is_refused(void)
 {
-    long growth = growths;
-    growths += inside;
-    return inside && (growth == refused || (behind && growth > refused));
+    long number = allocations;
+    allocations += inside;
+    return inside && (number == refused || (refuses_later && number > refused));
 }
 
 void *__wrap_malloc(size_t size)
@@ -148,19 +148,19 @@ static uint32_t take_next(mes_decoder *decoder, const char *bytes, size_t length
 static uint32_t take_many(mes_decoder *decoder, const char *bytes, size_t length, size_t *used, struct outcome *to, mes_event *last)
 {
     mes_event *events = malloc(room * sizeof *events);
-    const char *behind_text = NULL;
+    const char *next_text = NULL;
     size_t count = room + 1;
 
     expect(events != NULL, "no memory");
     inside = 1;
     uint32_t status = mes_decoder_many(decoder, bytes, length, used, events, room, &count);
     inside = 0;
-    expect(count <= room && (count == room) == (status == MES_EVENT), "another count than that of the room");
+    expect(count <= room && (count == room) == (status == MES_EVENT), "the count does not match the room");
     for (size_t i = 0; i < count; i++) {
-        expect((events[i].text == NULL) == (events[i].length == 0), "a text without bytes, or bytes without a text");
-        expect(behind_text == NULL || events[i].text == NULL || events[i].text == behind_text, "texts that stand apart");
+        expect((events[i].text == NULL) == (events[i].length == 0), "a text without a length, or a length without a text");
+        expect(next_text == NULL || events[i].text == NULL || events[i].text == next_text, "the texts are not consecutive");
         if (events[i].text != NULL)
-            behind_text = events[i].text + events[i].length;
+            next_text = events[i].text + events[i].length;
         keep_event(to, &events[i]);
     }
     free(events);
@@ -169,7 +169,7 @@ static uint32_t take_many(mes_decoder *decoder, const char *bytes, size_t length
     inside = 1;
     uint32_t again = mes_decoder_finish(decoder, last);
     inside = 0;
-    expect(again == status, "another end than that behind many events");
+    expect(again == status, "mes_decoder_finish returns another status than mes_decoder_many");
     return status;
 }
 
@@ -183,13 +183,13 @@ static int feed(mes_decoder *decoder, const char *bytes, size_t length, struct o
 
     do {
         status = (room > 0 ? take_many : take_next)(decoder, piece + at, length - at, &used, to, &last);
-        expect(used <= length - at, "more used than there is");
+        expect(used <= length - at, "more bytes used than passed");
         at += used;
         to->used += used;
     } while (status == MES_EVENT);
     free(piece);
     if (status == MES_MORE) {
-        expect(at == length, "bytes are left where more are wanted");
+        expect(at == length, "MES_MORE, but bytes are left");
         return 1;
     }
     keep_end(to, status, &last);
@@ -231,7 +231,7 @@ static struct outcome outcome_of(const struct bytes *all, size_t first, size_t p
     inside = 0;
     if (goes_on)
         keep_end(&to, status, &event);
-    expect(status == to.status, "another end at the end of the input");
+    expect(status == to.status, "mes_decoder_finish returns another status");
     mes_decoder_free(decoder);
     return to;
 }
@@ -247,25 +247,25 @@ static void print_records(const struct bytes *texts)
 {
     const char *at = texts->at, *end = texts->at + texts->length;
     while (at < end) {
-        char *behind;
-        strtoul(at, &behind, 10);
-        size_t length = strtoul(behind, &behind, 10);
+        char *next;
+        strtoul(at, &next, 10);
+        size_t length = strtoul(next, &next, 10);
         printf("%zu\n", length);
-        fwrite(behind + 1, 1, length, stdout);
-        at = behind + 1 + length;
+        fwrite(next + 1, 1, length, stdout);
+        at = next + 1 + length;
     }
 }
 
 static int stream(uint32_t framing, uint32_t limit, size_t piece, uint32_t flags)
 {
     struct bytes all = standard_input();
-    struct outcome told = outcome_of(&all, piece, piece, framing, limit, flags);
+    struct outcome got = outcome_of(&all, piece, piece, framing, limit, flags);
 
-    print_records(&told.texts);
-    fprintf(stderr, "%s\n", told.line);
-    free(told.texts.at);
+    print_records(&got.texts);
+    fprintf(stderr, "%s\n", got.line);
+    free(got.texts.at);
     free(all.at);
-    return told.status == MES_END ? 0 : 1;
+    return got.status == MES_END ? 0 : 1;
 }
 
 static int cuts(uint32_t framing, uint32_t limit, size_t step)
@@ -275,14 +275,14 @@ static int cuts(uint32_t framing, uint32_t limit, size_t step)
     size_t pieces[] = {1, 7, 512}, count = 0;
 
     for (size_t first = 1; first < all.length; first += step, count++) {
-        struct outcome told = outcome_of(&all, first, all.length, framing, limit, 0);
-        expect(is_same(&told, &whole), "a cut tells something else");
-        free(told.texts.at);
+        struct outcome got = outcome_of(&all, first, all.length, framing, limit, 0);
+        expect(is_same(&got, &whole), "a cut changes the outcome");
+        free(got.texts.at);
     }
     for (size_t i = 0; i < 3; i++, count++) {
-        struct outcome told = outcome_of(&all, pieces[i], pieces[i], framing, limit, 0);
-        expect(is_same(&told, &whole), "pieces tell something else");
-        free(told.texts.at);
+        struct outcome got = outcome_of(&all, pieces[i], pieces[i], framing, limit, 0);
+        expect(is_same(&got, &whole), "pieces change the outcome");
+        free(got.texts.at);
     }
     printf("%zu cuts: %s\n", count, whole.line);
     free(whole.texts.at);
@@ -290,33 +290,33 @@ static int cuts(uint32_t framing, uint32_t limit, size_t step)
     return 0;
 }
 
-static int check(uint32_t framing, uint32_t limit, size_t place)
+static int check(uint32_t framing, uint32_t limit, size_t size)
 {
     struct bytes all = standard_input();
     char *bytes = alone(all.at, all.length), *line = alone("", 0);
     uint64_t events = 0, used = 0;
 
-    if (place > 0) {
+    if (size > 0) {
         free(line);
-        line = malloc(place);
+        line = malloc(size);
         expect(line != NULL, "no memory");
-        memset(line, 'x', place);
+        memset(line, 'x', size);
     }
-    uint32_t status = mes_check(bytes, all.length, limit, framing, &events, &used, line, place);
-    printf("%u %" PRIu64 " %" PRIu64 " %s\n", status, events, used, place > 0 ? line : "");
+    uint32_t status = mes_check(bytes, all.length, limit, framing, &events, &used, line, size);
+    printf("%u %" PRIu64 " %" PRIu64 " %s\n", status, events, used, size > 0 ? line : "");
     free(line);
     free(bytes);
     free(all.at);
     return 0;
 }
 
-static int call(size_t place)
+static int call(size_t limit)
 {
     struct bytes all = standard_input();
-    char *bytes = alone(all.at, all.length), *text = place > 0 ? malloc(place) : NULL;
+    char *bytes = alone(all.at, all.length), *text = limit > 0 ? malloc(limit) : NULL;
     size_t size = 0;
 
-    uint32_t status = mes_call(bytes, all.length, text, place, &size);
+    uint32_t status = mes_call(bytes, all.length, text, limit, &size);
     printf("%u %zu %s\n", status, size, text != NULL ? text : "");
     free(text);
     free(bytes);
@@ -350,17 +350,16 @@ static int handles(size_t count)
     return 0;
 }
 /* After a failed allocation the stream stops, or an event has no text, or the fault no line. A
-single
- * failed allocation may be retried, and then the outcome is the same. */
-static void expect_refused(const struct outcome *told, const struct outcome *whole)
+ * single failed allocation may be retried, and then the outcome is the same. */
+static void expect_refused(const struct outcome *got, const struct outcome *whole)
 {
-    if (told->status == MES_NO_MEMORY) {
-        expect(told->events <= whole->events && told->used <= whole->used, "more than there is");
-        expect(told->line[0] == '\0' || strncmp(told->line, "fault F13 NoMemory after ", 25) == 0, "another line");
+    if (got->status == MES_NO_MEMORY) {
+        expect(got->events <= whole->events && got->used <= whole->used, "more events or bytes than with ample memory");
+        expect(got->line[0] == '\0' || strncmp(got->line, "fault F13 NoMemory after ", 25) == 0, "not the line of F13");
     } else {
-        expect(told->status == whole->status && told->events == whole->events && told->used == whole->used, "another outcome");
-        expect(!behind || !is_same(told, whole), "growths were refused without a word");
-        expect(told->texts.length <= whole->texts.length, "longer texts");
+        expect(got->status == whole->status && got->events == whole->events && got->used == whole->used, "another outcome");
+        expect(!refuses_later || !is_same(got, whole), "all allocations have failed, but the outcome is the same");
+        expect(got->texts.length <= whole->texts.length, "longer texts");
     }
 }
 
@@ -370,18 +369,18 @@ static int refuse(uint32_t framing)
     struct outcome whole = outcome_of(&all, 512, 512, framing, MES_LIMIT_USUAL, 0);
     int goes_on;
 
-    for (behind = 0; behind < 2; behind++)
+    for (refuses_later = 0; refuses_later < 2; refuses_later++)
         for (refused = 0, goes_on = 1; goes_on; refused++) {
-            growths = 0;
-            struct outcome told = outcome_of(&all, 512, 512, framing, MES_LIMIT_USUAL, 0);
-            goes_on = growths > refused;
+            allocations = 0;
+            struct outcome got = outcome_of(&all, 512, 512, framing, MES_LIMIT_USUAL, 0);
+            goes_on = allocations > refused;
             if (goes_on)
-                expect_refused(&told, &whole);
+                expect_refused(&got, &whole);
             else
-                expect(is_same(&told, &whole), "another outcome with all memory");
-            free(told.texts.at);
+                expect(is_same(&got, &whole), "another outcome without a failed allocation");
+            free(got.texts.at);
         }
-    printf("%s\n", refused > 1 ? "each growth refused" : "no growth");
+    printf("%s\n", refused > 1 ? "each allocation has failed" : "no allocation");
     free(whole.texts.at);
     free(all.at);
     return 0;
@@ -398,16 +397,16 @@ static void misuse_decoder(uint32_t framing)
     expect(mes_decoder_next(NULL, beat, 1, &used, &event) == MES_BAD_POINTER, "a null decoder");
     expect(mes_decoder_finish(NULL, &event) == MES_BAD_POINTER, "a null decoder at the end");
     expect(mes_decoder_next(decoder, NULL, 1, &used, &event) == MES_BAD_POINTER, "null bytes");
-    expect(mes_decoder_next(decoder, beat, 1, NULL, &event) == MES_BAD_POINTER, "nowhere for what was used");
-    expect(mes_decoder_next(decoder, beat, 1, &used, NULL) == MES_BAD_POINTER, "nowhere for the event");
-    expect(mes_decoder_finish(decoder, NULL) == MES_BAD_POINTER, "nowhere for the event at the end");
+    expect(mes_decoder_next(decoder, beat, 1, NULL, &event) == MES_BAD_POINTER, "a null pointer for the bytes used");
+    expect(mes_decoder_next(decoder, beat, 1, &used, NULL) == MES_BAD_POINTER, "a null event");
+    expect(mes_decoder_finish(decoder, NULL) == MES_BAD_POINTER, "a null event at the end");
     expect(mes_decoder_many(NULL, beat, 1, &used, &event, 1, &count) == MES_BAD_POINTER, "a null decoder of many");
     expect(mes_decoder_many(decoder, NULL, 1, &used, &event, 1, &count) == MES_BAD_POINTER, "null bytes of many");
-    expect(mes_decoder_many(decoder, beat, 1, NULL, &event, 1, &count) == MES_BAD_POINTER, "nowhere for what many used");
-    expect(mes_decoder_many(decoder, beat, 1, &used, NULL, 1, &count) == MES_BAD_POINTER, "nowhere for many events");
-    expect(mes_decoder_many(decoder, beat, 1, &used, &event, 1, NULL) == MES_BAD_POINTER, "nowhere for how many");
-    expect(count == 7, "a refused call told events");
-    expect(used == 5, "a refused call used bytes");
+    expect(mes_decoder_many(decoder, beat, 1, NULL, &event, 1, &count) == MES_BAD_POINTER, "a null pointer for the bytes that many used");
+    expect(mes_decoder_many(decoder, beat, 1, &used, NULL, 1, &count) == MES_BAD_POINTER, "null events of many");
+    expect(mes_decoder_many(decoder, beat, 1, &used, &event, 1, NULL) == MES_BAD_POINTER, "a null count of many");
+    expect(count == 7, "a rejected call changes the count");
+    expect(used == 5, "a rejected call changes the bytes used");
     expect(mes_decoder_next(decoder, NULL, 0, &used, &event) == MES_MORE && used == 0, "no bytes");
     expect(event.text == NULL && event.length == 0 && event.type == 0, "no event");
     event.type = 9;
@@ -433,10 +432,10 @@ static int misuse(void)
     char line[4] = "abc";
     size_t size = 0;
 
-    expect(mes_decoder_new(MES_LIMIT_USUAL, MES_PLAIN, 0, NULL) == MES_BAD_POINTER, "nowhere for the decoder");
+    expect(mes_decoder_new(MES_LIMIT_USUAL, MES_PLAIN, 0, NULL) == MES_BAD_POINTER, "a null pointer for the decoder");
     expect(mes_decoder_new(0, MES_PLAIN, 0, &decoder) == MES_BAD_LIMIT && decoder == NULL, "a limit of 0");
     expect(mes_decoder_new(MES_LIMIT_MOST + 1, 9, 0, &decoder) == MES_BAD_LIMIT, "a limit that is too large");
-    expect(mes_decoder_new(1, 2, 0, &decoder) == MES_BAD_FRAMING && decoder == NULL, "a framing that is none");
+    expect(mes_decoder_new(1, 2, 0, &decoder) == MES_BAD_FRAMING && decoder == NULL, "an invalid framing");
     mes_decoder_free(NULL);
     misuse_decoder(MES_PLAIN);
     misuse_decoder(MES_CHUNKED);
@@ -450,38 +449,38 @@ static int misuse(void)
     expect(mes_call(NULL, 0, NULL, 0, &size) == 11 && size > 0, "a call of no bytes");
     expect(mes_call("", 0, NULL, 1, &size) == MES_BAD_POINTER, "a null text");
     expect(strlen(mes_version()) >= 5, "the version");
-    puts("refused as told");
+    puts("all misuse rejected");
     return 0;
 }
 
-static uint32_t number(const char *word)
+static uint32_t number(const char *text)
 {
-    return (uint32_t)strtoul(word, NULL, 10);
+    return (uint32_t)strtoul(text, NULL, 10);
 }
 
-int main(int count, char **words)
+int main(int count, char **args)
 {
-    const char *what = count > 1 ? words[1] : "";
+    const char *what = count > 1 ? args[1] : "";
 
     if (strcmp(what, "stream") == 0 && count >= 6) {
-        room = number(words[5]);
-        return stream(number(words[2]), number(words[3]), number(words[4]), count > 6 ? number(words[6]) : 0);
+        room = number(args[5]);
+        return stream(number(args[2]), number(args[3]), number(args[4]), count > 6 ? number(args[6]) : 0);
     }
     if (strcmp(what, "cuts") == 0 && count == 6) {
-        room = number(words[5]);
-        return cuts(number(words[2]), number(words[3]), number(words[4]));
+        room = number(args[5]);
+        return cuts(number(args[2]), number(args[3]), number(args[4]));
     }
     if (strcmp(what, "check") == 0 && count == 5)
-        return check(number(words[2]), number(words[3]), number(words[4]));
+        return check(number(args[2]), number(args[3]), number(args[4]));
     if (strcmp(what, "call") == 0 && count == 3)
-        return call(number(words[2]));
+        return call(number(args[2]));
     if (strcmp(what, "handles") == 0 && count == 3)
-        return handles(number(words[2]));
+        return handles(number(args[2]));
     if (strcmp(what, "refuse") == 0 && count == 4) {
-        room = number(words[3]);
-        return refuse(number(words[2]));
+        room = number(args[3]);
+        return refuse(number(args[2]));
     }
     if (strcmp(what, "misuse") == 0 && count == 2)
         return misuse();
-    fail("bad words");
+    fail("usage error");
 }

@@ -1,7 +1,7 @@
 #!/usr/bin/env python3
-"""Compares what the files of completions/ complete with the help texts of a built mesosev: its subcommands, and the options of each.
+"""Compares the completions of bash and fish with the help texts of the built command.
 
-bash is asked as a user asks it, and so is fish if it is installed. The last line is 'N passed, M failed'.
+The subcommands and the options of each must be the same. Without fish its cases are skipped.
 """
 import os
 import re
@@ -10,13 +10,13 @@ import subprocess
 import sys
 import tempfile
 
-sys.dont_write_bytecode = True  # Nothing is left beside the scripts.
+sys.dont_write_bytecode = True
 from support import TOP, Cases, parser
 
 LIMIT = 60
 FILE = "stream.recordio"
 
-# The words of a line go to the function that completes it, and what it answers is printed.
+# Calls the completion function with the words of a line, and prints its results.
 ASK_BASH = """
 source "$1"
 shift
@@ -34,7 +34,7 @@ def listed(text):
 
 
 class Bash:
-    """What bash completes: the last word of a line goes on so."""
+    """Completes the last word of a line by bash."""
 
     name = "bash"
 
@@ -42,13 +42,13 @@ class Bash:
         self.run, self.file = run, os.path.join(TOP, "completions/mesosev.bash")
 
     def complete(self, line):
-        # bash cuts a line at blanks, at `<` and at `=`.
+        # bash splits a line at blanks, at `<` and at `=`.
         words = re.findall(r"[<=]|[^\s<=]+", line) + ([""] if line.endswith((" ", "=")) else [])
         return listed(self.run(["bash", "--norc", "-c", ASK_BASH, "bash", self.file, *words]))
 
 
 class Fish:
-    """The same of fish, without the descriptions."""
+    """Completes the last word of a line by fish. Drops the descriptions."""
 
     name = "fish"
 
@@ -60,7 +60,7 @@ class Fish:
 
 
 class Tests(Cases):
-    """A folder with a file, and one where the program is found as mesosev."""
+    """A folder with a file, and a folder with the program as mesosev."""
 
     def __init__(self, folder, program, word):
         super().__init__(word)
@@ -72,25 +72,25 @@ class Tests(Cases):
         with open(os.path.join(self.folder, FILE), "wb"):
             pass
 
-    def run(self, words):
-        """What a command prints on both outputs, in the folder with the file."""
+    def run(self, command):
+        """Returns what a command prints on both outputs, in the folder with the file."""
         path = self.programs + os.pathsep + os.environ.get("PATH", os.defpath)
         environment = os.environ | {"PATH": path, "HOME": self.home}
         pipes = {"stdin": subprocess.DEVNULL, "stdout": subprocess.PIPE, "stderr": subprocess.STDOUT}
-        ran = subprocess.run(words, cwd=self.folder, env=environment, timeout=LIMIT, check=False, **pipes)
+        ran = subprocess.run(command, cwd=self.folder, env=environment, timeout=LIMIT, check=False, **pipes)
         return ran.stdout.decode(errors="backslashreplace")
 
     def help(self, command):
-        """The help text of a subcommand, or with name on of them all."""
+        """Returns the help text of a subcommand, or of mesosev for an empty name."""
         return self.run(["mesosev", command, "--help"] if command else ["mesosev", "--help"])
 
     def commands(self):
-        """The subcommands that the help text has."""
+        """Returns the subcommands that the help text lists."""
         block = self.help("").split("\nCommands:\n")[-1].split("\n\n")[0]
         return sorted(re.findall(r"^  ([a-z]+)\b", block, re.MULTILINE))
 
     def options(self, command):
-        """The options of a subcommand, short and long ones, and those among them that take a value."""
+        """Returns the options of a subcommand, short and long, and those that take a value."""
         if command == "help":
             return [], []
         block = self.help(command).split("\nOptions:\n")[-1].split("\n\n")[0]
@@ -99,7 +99,7 @@ class Tests(Cases):
         return sorted(names), sorted(row[1] for row in rows if row[2])
 
     def compare(self, shell):
-        """What a shell completes, beside what the help texts have, in both directions."""
+        """Compares what a shell completes with the help texts, in both directions."""
         commands = self.commands()
         self.expect_of("the help text has commands", True, lambda: len(commands) > 1)
         self.expect_of(f"{shell.name}: the subcommands", commands, lambda: [word for word in shell.complete("mesosev ") if word[0] != "-"])
@@ -125,7 +125,7 @@ class Tests(Cases):
 
 
 def main():
-    arguments = parser(__doc__, "program").parse_args()
+    arguments = parser(__doc__, "tests/completions.py $(tools/built checked) -k serve", "program").parse_args()
     with tempfile.TemporaryDirectory(prefix="mesosev-completions-") as folder:
         tests = Tests(folder, os.path.abspath(arguments.program), arguments.word)
         tests.compare(Bash(tests.run))

@@ -1,15 +1,16 @@
 #!/usr/bin/env python3
-"""Compares the code of docs/LIBRARY.md with crates/mesosev_guide, the program that holds its examples.
+"""Compares the Rattle code of docs/LIBRARY.md with the program crates/mesosev_guide.
 
-Each block of the page that is indented by four spaces is to stand in one file of crates/mesosev_guide/src, as one run of its lines; a line `...`
-alone skips lines of the file. What stands between two lines ``` is of another language, and is not looked at here. Blanks at the ends of lines are not looked at.
-A case is a block, and has the name of its first line. The last line is 'N passed, M failed', of blocks.
+The lines of each block that is indented by four spaces must be consecutive lines of one file of
+crates/mesosev_guide/src. A line `...` skips lines of the file. Blanks at the end of a line, and
+blocks between lines ```, which are of other languages, are ignored. A case is a block; its name
+has the first line of the block.
 """
 import glob
 import os
 import sys
 
-sys.dont_write_bytecode = True  # Nothing is left beside the scripts.
+sys.dont_write_bytecode = True
 from support import TOP, Cases, parser
 
 PAGE = "docs/LIBRARY.md"
@@ -24,7 +25,7 @@ def lines_of(path):
 
 
 def trimmed(run):
-    """The lines without the empty ones at both ends."""
+    """Returns the lines without the empty ones at both ends."""
     while run and not run[0][1]:
         run = run[1:]
     while run and not run[-1][1]:
@@ -33,7 +34,7 @@ def trimmed(run):
 
 
 def blocks_of(page):
-    """The blocks, each as its lines with their numbers in the page. An empty line ends no block."""
+    """Returns the blocks, each as its lines with their numbers in the page. A block can contain empty lines."""
     blocks, block, fenced = [], [], False
     for number, line in [*enumerate(page, 1), (0, "end")]:
         fenced ^= line.startswith(FENCE)
@@ -48,7 +49,7 @@ def blocks_of(page):
 
 
 def runs_of(block):
-    """What stands between the lines that are `...` alone."""
+    """Returns the parts of a block between its lines `...`."""
     runs = [[]]
     for number, line in block:
         if line.strip() == "...":
@@ -59,7 +60,7 @@ def runs_of(block):
 
 
 def common(run, text, start):
-    """How many lines of the run stand in the text from there on."""
+    """Returns how many of the first lines of the run are in the text from line `start` on."""
     count = 0
     while count < len(run) and start + count < len(text) and text[start + count] == run[count][1]:
         count += 1
@@ -67,7 +68,7 @@ def common(run, text, start):
 
 
 def fitting(runs, text):
-    """How many lines of the runs stand in the text, each run behind the one before, up to the first line that does not."""
+    """Returns how many lines of the runs are in the text, in order, before the first one that is not."""
     at, total = 0, 0
     for run in runs:
         counts = [common(run, text, start) for start in range(at, len(text))]
@@ -79,19 +80,19 @@ def fitting(runs, text):
 
 
 def fault_of(runs, texts):
-    """What is wrong with a block, or nothing."""
+    """Returns the error of a block, or None."""
     lines = [line for run in runs for line in run]
     if not lines:
-        return "a block without a line of code"
+        return "the block has no line of code"
     fits = max((fitting(runs, text) for text in texts), default=0)
     if fits == len(lines):
         return None
     number, line = lines[fits]
-    return f"line {number} stands so in no file: {line!r}"
+    return f"no file has line {number} in this place: {line!r}"
 
 
 def main():
-    tests = Cases(parser(__doc__).parse_args().word)
+    tests = Cases(parser(__doc__, "tests/library.py -k master").parse_args().word)
     texts = [lines_of(path) for path in sorted(glob.glob(os.path.join(TOP, SOURCES)))]
     blocks = blocks_of(lines_of(os.path.join(TOP, PAGE)))
     for block in blocks or [[(0, "")]]:

@@ -1,7 +1,8 @@
 #!/usr/bin/env python3
-"""Runs a built mesosev as a user does: words, input, and what it must print on standard output and standard error, and its status.
+"""Runs the built command on rows of arguments and input, and compares both outputs and the status.
 
-Each input is given as a file and through a pipe, a byte at a time. The last line is 'N passed, M failed'.
+Each input comes as a file, and through a pipe a byte at a time. Outputs that are full, closed,
+without a reader or too small are tried too. The name of a case contains its arguments.
 """
 import json
 import os
@@ -12,18 +13,17 @@ import subprocess
 import sys
 import tempfile
 
-sys.dont_write_bytecode = True  # Nothing is left beside the scripts.
+sys.dont_write_bytecode = True
 from support import BEAT, Cases, chunked, parser, record
 
-# The record of 23 bytes in chunks of 7.
+# BEAT in chunks of 7 bytes.
 BY_SEVEN = '7\r\n20\n{"ty\r\n7\r\npe":"HE\r\n7\r\nARTBEAT\r\n2\r\n"}\r\n0\r\n\r\n'
-# The same in chunks of one byte: 143 bytes.
+# BEAT in chunks of one byte: 143 bytes.
 BY_BYTES = "".join(f"1\r\n{byte}\r\n" for byte in BEAT) + "0\r\n\r\n"
-# 98 bytes of text, whose canonical text has 100: `15.0` for `15`.
+# A text of 98 bytes, whose canonical text has 100: `15.0` for `15`.
 SUBSCRIBED = '98\n{"type":"SUBSCRIBED","subscribed":{"framework_id":{"value":"F1"},"heartbeat_interval_seconds":15}}'
 
-
-# A session log: a SUBSCRIBED (70 bytes), a break, and a REVIVE (51 bytes).
+# Entries of a session log: SUBSCRIBED (70 bytes), a disconnection, and REVIVE (51 bytes).
 SESSION = '67\nE{"type":"SUBSCRIBED","subscribed":{"framework_id":{"value":"F1"}}}'
 BREAK = "1\nB"
 REVIVE = '48\nC{"type":"REVIVE","framework_id":{"value":"F1"}}'
@@ -33,12 +33,12 @@ E{"type":"UPDATE","update":{"status":{"task_id":{"value":"a\"b"},"state":"TASK_L
 
 
 def nested(objects):
-    """So many objects inside each other."""
+    """Returns the text of this many objects inside each other."""
     return '{"a":' * (objects - 1) + "{}" + "}" * (objects - 1)
 
 
 def entry(letter, message):
-    """The record of an entry of a session log."""
+    """Returns an entry of a session log as a record."""
     return record(letter + json.dumps(message, separators=(",", ":")))
 
 
@@ -51,7 +51,7 @@ def cpus(number):
 
 
 def offers(*ids_and_agents):
-    """An OFFERS entry of offers of one processor."""
+    """Returns an entry of offers that have one processor each."""
     listed = [
         {"id": named(offer), "framework_id": named("F1"), "agent_id": named(agent), "hostname": "h", "resources": [cpus(1.0)]}
         for offer, agent in ids_and_agents
@@ -64,41 +64,40 @@ def task(name, agent, share):
 
 
 def accept(ids, *tasks):
-    """An ACCEPT entry of the offers, which launches the tasks."""
+    """Returns an entry of a call that accepts the offers and launches the tasks."""
     operations = [{"type": "LAUNCH", "launch": {"task_infos": tasks}}] if tasks else []
     body = {"offer_ids": [named(it) for it in ids], "operations": operations}
     return entry("C", {"type": "ACCEPT", "framework_id": named("F1"), "accept": body})
 
 
-# An ACKNOWLEDGE of an update that was never heard.
+# Acknowledges an update that was not received.
 ACKNOWLEDGE = entry("C", {
     "type": "ACKNOWLEDGE",
     "framework_id": named("F1"),
     "acknowledge": {"agent_id": named("A1"), "task_id": named("T1"), "uuid": "AAEC"},
 })
-# One offer of one processor, and tasks that are too large for it together.
+# One offer of one processor, and two tasks whose sum exceeds it.
 ONE_OFFER = SESSION + offers(("O1", "A1"))
 TOO_LARGE = accept(["O1"], task("T1", "A1", 0.6), task("T2", "A1", 0.501))
-# An offer that nests 128 deep, and one more in its canonical text: the list of offers stands in an object there.
+# An event that nests 128 deep. Its canonical text nests one deeper: the list of offers is in an object there.
 DEEP_OFFER = (
     '{"type":"OFFERS","offers":[{"id":{"value":"O1"},"framework_id":{"value":"F1"},"agent_id":{"value":"A1"},"hostname":"h",'
     '"resources":[{"name":"disk","type":"SCALAR","scalar":{"value":1},"disk":%s}]}]}' % nested(123)
 )
 
-
-# Words, an input, and what stands on standard output with status 0.
+# Arguments, input, and the standard output with status 0.
 GOOD = [
     ("check", "", "events 0 bytes 0\n"),
     ("check", BEAT, "events 1 bytes 23\n"),
     ("check", BEAT + BEAT, "events 2 bytes 46\n"),
     ("check", '00000000000000000020\n{"type":"HEARTBEAT"}', "events 1 bytes 41\n"),
     ("check", '40\n{"type":"ERROR","error":{"message":"m"}}', "events 1 bytes 43\n"),
-    # An event whose body is dropped.
+    # The body of the event is dropped.
     ("check", '25\n{"type":"INVERSE_OFFERS"}', "events 1 bytes 28\n"),
-    # Members of other names are ignored, also where they stand twice.
+    # Unknown members are ignored, even duplicates.
     ("check", '35\n{"x":"a","type":"HEARTBEAT","x":{}}', "events 1 bytes 38\n"),
     ("check", '26\n{"type":"HEARTBEAT","x":1}', "events 1 bytes 29\n"),
-    # Escapes in a name and in a text; each kind of value in a member of another name.
+    # Escapes in a name and in a text; each kind of value in an unknown member.
     ("check", r'''60
 {"x":[null,true,-0.5e+1],"t\u0079pe":"\u0048EARTBEAT","y":0}''', "events 1 bytes 63\n"),
     ("check --limit 20", BEAT, "events 1 bytes 23\n"),
@@ -115,7 +114,7 @@ GOOD = [
         '40\n{"type":"ERROR","error":{"message":"m"}}29\n{"type":"OFFERS","offers":[]}20\n{"type":"HEARTBEAT"}',
         '1 ERROR "m"\n2 OFFERS 0\n3 HEARTBEAT\nevents 3 bytes 98\n',
     ),
-    # 920 bytes, which are more than one read takes.
+    # 920 bytes: more than one read returns.
     ("show", 40 * BEAT, "".join(f"{number} HEARTBEAT\n" for number in range(1, 41)) + "events 40 bytes 920\n"),
     ("show --limit 20", BEAT, "1 HEARTBEAT\nevents 1 bytes 23\n"),
     ("show --limit=20", BEAT, "1 HEARTBEAT\nevents 1 bytes 23\n"),
@@ -127,7 +126,7 @@ GOOD = [
     ("convert --most 1", BEAT, BY_BYTES),
     ("convert --most 7", BEAT, BY_SEVEN),
     ("convert --most 1", "", "0\r\n\r\n"),
-    # 9,200 bytes, whose chunks take more than the buffer has room for: all together, or one of them alone.
+    # 9,200 bytes: all chunks together, or a single one, exceed the buffer.
     ("convert --most 1", 400 * BEAT, chunked(400 * BEAT, 1)),
     ("convert --most 9000", 400 * BEAT, chunked(400 * BEAT, 9000)),
     ("convert --chunked", BY_BYTES, BEAT),
@@ -156,7 +155,7 @@ GOOD = [
     ("loopback", "", '1 SUBSCRIBED "F1" 15.0\nevents 1 bytes 115\n'),
     ("loopback", BEAT, '1 SUBSCRIBED "F1" 15.0\n2 HEARTBEAT\nevents 2 bytes 138\n'),
     ("loopback --most=4096", BEAT, '1 SUBSCRIBED "F1" 15.0\n2 HEARTBEAT\nevents 2 bytes 138\n'),
-    # Members that are not known are dropped, and a bare array of offers gets its object.
+    # Unknown members are dropped, and an array of offers is put into its object.
     (
         "convert",
         '26\n{"type":"HEARTBEAT","x":1}29\n{"type":"OFFERS","offers":[]}',
@@ -164,16 +163,16 @@ GOOD = [
     ),
 ]
 
-# Inputs of `check`, and the fault that is told with status 1.
+# Input of `check`, and the fault that it prints with status 1.
 FAULTS = [
     ("x", "F7 BadSizeLine after 1"),
     ("000000000000000000020\n", "F8 SizeLineTooLong after 21"),
     ("18446744073709551636\n", "F9 RecordTooLarge after 21"),
-    # Records that are no JSON text.
+    # The record is not JSON.
     ("0\n", "F11 Text record 1 byte 0 End after 2"),
     ('34\n{"type":"HEARTBEAT","x":"\\ud800x"}', "F11 Text record 1 byte 31 Byte after 37"),
     ('33\n{"type":"HEARTBEAT","x":"\\udc00"}', "F11 Text record 1 byte 28 Byte after 36"),
-    # JSON texts of no event.
+    # The record is JSON, but not an event.
     ('7\n"abcde"', "F12 Field record 1 . WrongKind after 9"),
     ("4\nnull", "F12 Field record 1 . WrongKind after 6"),
     ("2\n[]", "F12 Field record 1 . WrongKind after 4"),
@@ -190,9 +189,9 @@ FAULTS = [
     ('27\n{"type":"ERROR","error":{}}', "F12 Field record 1 error.message Missing after 30"),
     ('39\n{"type":"ERROR","error":{"message":{}}}', "F12 Field record 1 error.message WrongKind after 42"),
     ('54\n{"type":"ERROR","error":{"message":"m","message":"n"}}', "F12 Field record 1 error.message Twice after 57"),
-    # The record behind an event, before a good one.
+    # The second of three records.
     (BEAT + "2\n{}" + BEAT, "F12 Field record 2 type Missing after 27"),
-    # Objects inside each other, as deep as a text may nest, and one deeper: the `{` stands behind 128 openings of 5 bytes. Arrays too.
+    # Objects, then arrays, at the greatest depth (128) and one deeper. That `{` follows 128 openings of 5 bytes.
     (record(nested(128)), "F12 Field record 1 type Missing after 768"),
     (record(nested(129)), "F11 Text record 1 byte 640 Depth after 774"),
     (record("[" * 128 + "]" * 128), "F12 Field record 1 . WrongKind after 260"),
@@ -202,7 +201,7 @@ FAULTS = [
     *((BEAT[:taken], f"F10 EndsInsideRecord after {taken}") for taken in range(1, len(BEAT))),
 ]
 
-# Words, an input, and what stands on standard output with status 1.
+# Arguments, input, and the standard output with status 1.
 BAD = [
     *(("check", text, f"fault {fault}\n") for text, fault in FAULTS),
     ("check --limit 19", BEAT, "fault F9 RecordTooLarge after 3\n"),
@@ -221,7 +220,7 @@ BAD = [
     ("replay", ONE_OFFER + TOO_LARGE, "refused S6 Exceeds record 3 task 0 resource 0\n"),
     ("replay", "1\n2" + ONE_OFFER + TOO_LARGE, "refused S6 Exceeds record 3 task 0 resource 0\n"),
     ("replay", SESSION + ACKNOWLEDGE, "refused S7 NotOwed record 2\n"),
-    # Behind a call that is refused the log has a fault, which is told.
+    # A fault of the log after a rejected call is reported instead of the call.
     ("replay", REVIVE + "1\nX", "fault F16 BadEntry record 2 after 54\n"),
     ("replay", SESSION + BREAK, "fault F16 BadEntry record 2 after 73\n"),
     ("replay", "1\n21\n2", "fault F16 BadEntry record 2 after 6\n"),
@@ -246,8 +245,8 @@ BAD = [
     ("show --chunked --limit 19", BY_BYTES, "fault F9 RecordTooLarge after 16\n"),
 ]
 
-# Words, an input, and what `convert` tells on standard error with status 1, with nothing on standard output.
-TOLD = [
+# Arguments, input, and the standard error with status 1. Standard output is empty.
+ERRORS = [
     ("convert", "0\n", "fault F11 Text record 1 byte 0 End after 2\n"),
     ("convert", BEAT + "2\n{}", "fault F12 Field record 2 type Missing after 27\n"),
     ("convert", BEAT + "20\n{", "fault F10 EndsInsideRecord after 27\n"),
@@ -261,8 +260,8 @@ TOLD = [
     ("relog", ("1\n2" + SESSION)[:72], "fault F10 EndsInsideRecord after 72\n"),
 ]
 
-# Words that are a mistake: status 2, and an error on standard error alone.
-MISTAKES = [
+# Usage errors: status 2, and a text on standard error only.
+USAGE_ERRORS = [
     "check --limit 0",
     "check --limit 67108865",
     "check --limit x",
@@ -299,7 +298,7 @@ MISTAKES = [
     "loopback --limit 1",
 ]
 
-# Words whose value is of no use: status 2, and this line on standard error alone.
+# Arguments with an invalid value: status 2, and this line on standard error only.
 BAD_VALUES = [
     ("serve --port 5050 --count 1 --stream x", "bad value --stream\n"),
     ("serve --port 5050 --count 1 --stream {00000000000040008000000000000001}", "bad value --stream\n"),
@@ -307,8 +306,8 @@ BAD_VALUES = [
     (f"subscribe --to {256 * 'a'} --user u --name n", "bad value --to\n"),
 ]
 
-# Words that ask for a text, and a part of it: status 0, on standard output alone.
-ASKED = [
+# Arguments that print help or the version, and a part of that text: status 0, on standard output only.
+HELP = [
     ("--help", "check"),
     ("convert --help", "--most <M>"),
     ("--version", "mesosev 0.1.0\n"),
@@ -318,7 +317,7 @@ ASKED = [
     ("convert --version", "mesosev-convert 0.1.0\n"),
     ("check --help", "--limit <N>"),
     ("show --help", "--limit <N>"),
-    # That a file is given by `<` stands in the help of each that reads one alone.
+    # The help of each command that reads one file says how to pass it.
     ("--help", "< FILE"),
     ("check --help", "< FILE"),
     ("show -h", "< FILE"),
@@ -337,10 +336,10 @@ ASKED = [
     ("loopback --version", "mesosev-loopback 0.1.0\n"),
 ]
 
-# Words that are no text: status 2, and one line on standard error alone.
-NOT_TEXT = [[b"\xff"], [b"check", b"--limit", b"1\xc3"], [b"\xed\xa0\x80", b"--help"]]
+# Arguments that are not UTF-8: status 2, and one line on standard error only.
+NOT_UTF_8 = [[b"\xff"], [b"check", b"--limit", b"1\xc3"], [b"\xed\xa0\x80", b"--help"]]
 
-# Words whose input is a folder, which can't be read: a line on standard output, or for `convert` on standard error, with status 1.
+# Arguments, both outputs and the status if standard input is a folder, which cannot be read.
 FOLDER = [
     ("check", ("fault F14 Read after 0\n", "", 1)),
     ("check --chunked", ("fault F14 Read after 0\n", "", 1)),
@@ -352,34 +351,34 @@ FOLDER = [
     ("serve --port 1 --count 1", ("fault F14 Read after 0\n", "", 1)),
 ]
 
-# Words and an input whose output fails before its first byte, which is told on standard error, with status 1. Where nobody reads the
-# output, nothing is told of what is printed.
+# Arguments and input whose output fails before its first byte: status 1, with a line on standard error. If the
+# output is a pipe that has no reader, PRINTING writes no such line.
 PRINTING = [
-    *((words, 400 * BEAT) for words in ("check", "check --chunked", "show", "loopback", "--help", "show --help", "--version", "check -V")),
+    *((args, 400 * BEAT) for args in ("check", "check --chunked", "show", "loopback", "--help", "show --help", "--version", "check -V")),
     ("replay", SESSION),
 ]
 WRITING = [
-    *((words, 400 * BEAT) for words in ("convert", "convert --most 1", "convert --most 16777216")),
+    *((args, 400 * BEAT) for args in ("convert", "convert --most 1", "convert --most 16777216")),
     ("relog", SESSION),
 ]
 
-# Words, an input, and what stands on standard output, which may fail behind any byte of it.
+# Arguments, input, and standard output, which may fail after any of its bytes.
 BEATS = "".join(f"{number} HEARTBEAT\n" for number in range(1, 10001)) + "events 10000 bytes 230000\n"
 LONG = [
     ("check", 10000 * BEAT, "events 10000 bytes 230000\n"),
     ("show", 10000 * BEAT, BEATS),
-    # Lines that the buffer has no room for.
+    # A line that exceeds the buffer.
     ("show", record('{"type":"ERROR","error":{"message":"%s"}}' % ("m" * 100000)), '1 ERROR "%s"\nevents 1 bytes 100046\n' % ("m" * 100000)),
-    # Lines that the buffer has no room for behind those that it holds.
+    # Lines that fit into the buffer alone, but not together.
     ("show", record('{"type":"ERROR","error":{"message":"%s"}}' % ("m" * 65500)) + 3 * BEAT, '1 ERROR "%s"\n%sevents 4 bytes 65614\n' % ("m" * 65500, BEATS[12:48])),
     ("convert", 10000 * BEAT, 10000 * BEAT),
     ("convert --most 1", 500 * BEAT, "".join(f"1\r\n{byte}\r\n" for byte in 500 * BEAT) + "0\r\n\r\n"),
     ("replay", SESSION + ODD_UPDATE, 'entries 2\nframework "F1"\nowed "A1" "a\\"b" hex:000102\n'),
     ("relog", SESSION + 2000 * REVIVE, "1\n2" + SESSION + 2000 * REVIVE),
 ]
-# How many bytes a pipe holds.
+# The capacity of a pipe in bytes.
 PIPE = 65536
-# How many bytes of standard input are read ahead.
+# The bytes of standard input that the command reads ahead.
 READ_AHEAD = 16384
 
 
@@ -388,90 +387,90 @@ class Tests(Cases):
         super().__init__(word)
         self.program = os.path.abspath(program)
 
-    def from_file(self, words, text):
-        """What the command prints and answers, and how much of the input it has read."""
+    def from_file(self, args, text):
+        """Returns both outputs, the status, and the bytes of the file that were read."""
         with tempfile.TemporaryFile() as file:
             file.write(text.encode())
             file.seek(0)
-            ran = subprocess.run([self.program, *words.split()], stdin=file, capture_output=True, timeout=60, check=False)
+            ran = subprocess.run([self.program, *args.split()], stdin=file, capture_output=True, timeout=60, check=False)
             return ran.stdout.decode(), ran.stderr.decode(), ran.returncode, os.lseek(file.fileno(), 0, os.SEEK_CUR)
 
-    def from_folder(self, words):
-        """What the command prints and answers where its input is a folder."""
+    def from_folder(self, args):
+        """Returns both outputs and the status if the input is a folder."""
         folder = os.open(tempfile.gettempdir(), os.O_RDONLY)
         try:
-            ran = subprocess.run([self.program, *words.split()], stdin=folder, capture_output=True, timeout=60, check=False)
+            ran = subprocess.run([self.program, *args.split()], stdin=folder, capture_output=True, timeout=60, check=False)
         finally:
             os.close(folder)
         return ran.stdout.decode(), ran.stderr.decode(), ran.returncode
 
-    def to(self, words, text, out, **more):
-        """What the command tells and answers with this output, and how much of the input it has read."""
+    def to(self, args, text, out, **more):
+        """Returns standard error, the status, and the bytes of input that were read, if `out` is standard output."""
         with tempfile.TemporaryFile() as file:
             file.write(text.encode())
             file.seek(0)
             ran = subprocess.run(
-                [self.program, *words.split()], stdin=file, stdout=out, stderr=subprocess.PIPE, timeout=60, check=False, **more
+                [self.program, *args.split()], stdin=file, stdout=out, stderr=subprocess.PIPE, timeout=60, check=False, **more
             )
             return ran.stderr.decode(), ran.returncode, os.lseek(file.fileno(), 0, os.SEEK_CUR)
 
-    def to_full(self, words, text):
-        """The same where the output has no room."""
+    def to_full(self, args, text):
+        """Like `to`, on a device that is always full."""
         with open("/dev/full", "wb") as full:
-            return self.to(words, text, full)[:2]
+            return self.to(args, text, full)[:2]
 
-    def to_closed(self, words, text):
-        """The same where there is no output."""
-        return self.to(words, text, None, preexec_fn=lambda: os.close(1))[:2]
+    def to_closed(self, args, text):
+        """Like `to`, with standard output closed."""
+        return self.to(args, text, None, preexec_fn=lambda: os.close(1))[:2]
 
-    def to_nobody(self, words, text):
-        """The same where nobody reads the output."""
+    def to_no_reader(self, args, text):
+        """Like `to`, with a pipe whose other end is closed."""
         reading, writing = os.pipe()
         os.close(reading)
         with os.fdopen(writing, "wb") as out:
-            return self.to(words, text, out)
+            return self.to(args, text, out)
 
-    def to_slow(self, words, text):
-        """The same where the output takes no more than a pipe holds, and what went out."""
+    def to_slow(self, args, text):
+        """Like `to`, with a pipe that is not read meanwhile. Also returns what was written."""
         reading, writing = os.pipe2(os.O_NONBLOCK)
         with os.fdopen(reading, "rb") as kept, os.fdopen(writing, "wb") as out:
-            told = self.to(words, text, out)[:2]
-            return kept.read().decode(), *told
+            ended = self.to(args, text, out)[:2]
+            return kept.read().decode(), *ended
 
-    def to_filled(self, words, text):
-        """The same where the output is a pipe that holds no more."""
+    def to_filled(self, args, text):
+        """Like `to`, with a pipe that is full already."""
         reading, writing = os.pipe2(os.O_NONBLOCK)
         with os.fdopen(reading, "rb"), os.fdopen(writing, "wb", buffering=0) as out:
             while out.write(bytes(65536)):
                 pass
-            return self.to(words, text, out)[:2]
+            return self.to(args, text, out)[:2]
 
-    def to_short(self, words, text, most):
-        """The same where the output takes so many bytes, and what went out."""
+    def to_short(self, args, text, size):
+        """Like `to`, with a file of at most `size` bytes. Also returns what was written."""
 
-        def short():
+        def limit_file():
             signal.signal(signal.SIGXFSZ, signal.SIG_IGN)
-            resource.setrlimit(resource.RLIMIT_FSIZE, (most, most))
+            resource.setrlimit(resource.RLIMIT_FSIZE, (size, size))
 
         with tempfile.TemporaryFile() as out:
-            told = self.to(words, text, out, preexec_fn=short)[:2]
+            ended = self.to(args, text, out, preexec_fn=limit_file)[:2]
             out.seek(0)
-            return out.read().decode(), *told
+            return out.read().decode(), *ended
 
-    def at_once(self, words, text):
-        """What stands on standard output before the input ends."""
+    def at_once(self, args, text):
+        """Returns what is on standard output before the input ends."""
         pipes = {"stdin": subprocess.PIPE, "stdout": subprocess.PIPE}
-        with subprocess.Popen([self.program, *words.split()], bufsize=0, **pipes) as running:
+        with subprocess.Popen([self.program, *args.split()], bufsize=0, **pipes) as running:
             running.stdin.write(text.encode())
-            came = select.select([running.stdout], [], [], 60)[0]
-            lines = running.stdout.read(65536).decode() if came else ""
+            is_ready = select.select([running.stdout], [], [], 60)[0]
+            lines = running.stdout.read(65536).decode() if is_ready else ""
             running.communicate(timeout=60)
             return lines
 
-    def from_pipe(self, words, text):
-        """What the command prints and answers where its input comes a byte at a time."""
+    def from_pipe(self, args, text):
+        """Returns both outputs and the status if the input comes a byte at a time."""
         pipes = {"stdin": subprocess.PIPE, "stdout": subprocess.PIPE, "stderr": subprocess.PIPE}
-        with subprocess.Popen([self.program, *words.split()], bufsize=0, **pipes) as running:
+        with subprocess.Popen([self.program, *args.split()], bufsize=0, **pipes) as running:
             try:
                 for byte in text.encode():
                     running.stdin.write(bytes([byte]))
@@ -480,75 +479,80 @@ class Tests(Cases):
             out, err = running.communicate(timeout=60)
             return out.decode(), err.decode(), running.returncode
 
-    def mistaken(self, words, start="error: "):
-        """The same of a mistake, where standard error is compared with how it begins."""
-        out, err, status, read = self.from_file(words, BEAT)
+    def usage_error(self, args, start="error: "):
+        """Like `from_file`, with only the start of standard error."""
+        out, err, status, read = self.from_file(args, BEAT)
         return out, err[: len(start)], status, read
 
-    def asked(self, words, part):
-        """The same where a text is asked for, and whether it has this part."""
-        out, *others = self.from_file(words, BEAT)
+    def help(self, args, part):
+        """Like `from_file`, with whether standard output has this part in its place."""
+        out, *others = self.from_file(args, BEAT)
         return part in out, *others
 
-    def not_text(self, words):
-        ran = subprocess.run([self.program.encode(), *words], stdin=subprocess.DEVNULL, capture_output=True, timeout=60, check=False)
+    def not_utf_8(self, args):
+        ran = subprocess.run([self.program.encode(), *args], stdin=subprocess.DEVNULL, capture_output=True, timeout=60, check=False)
         return ran.stdout, ran.stderr, ran.returncode
 
-    def mistake_to_full(self):
+    def usage_error_to_full(self):
         with open("/dev/full", "wb") as full:
             ran = subprocess.run([self.program, "chek"], stdin=subprocess.DEVNULL, stdout=subprocess.PIPE, stderr=full, timeout=60, check=False)
             return ran.stdout, ran.returncode
 
-    def stream(self, words, text, wanted):
-        name = f"{words}, {text[:60]!r}"
-        self.expect_of(name, wanted, lambda: self.from_file(words, text)[:3])
-        self.expect_of(f"{name} by bytes", wanted, self.from_pipe, words, text)
+    def stream(self, args, text, expected):
+        name = f"{args}, {text[:60]!r}"
+        self.expect_of(name, expected, lambda: self.from_file(args, text)[:3], given=text)
+        self.expect_of(f"{name} by bytes", expected, self.from_pipe, args, text, given=text)
 
     def run(self):
-        for words, text, out in GOOD:
-            self.stream(words, text, (out, "", 0))
-        for words, text, out in BAD:
-            self.stream(words, text, (out, "", 1))
-        for words, text, err in TOLD:
-            self.stream(words, text, ("", err, 1))
-        for words in MISTAKES:
-            self.expect_of(f"mistake: {words}", ("", "error: ", 2, 0), self.mistaken, words)
-        for words, line in BAD_VALUES:
-            self.expect_of(f"bad value: {words[:60]}", ("", line, 2, 0), self.from_file, words, BEAT)
-        for words, part in ASKED:
-            self.expect_of(f"asked: {words}", (True, "", 0, 0), self.asked, words, part)
-        for words in NOT_TEXT:
-            self.expect_of(f"no text: {words}", (b"", b"error: a word is not UTF-8\n", 2), self.not_text, words)
-        for words, wanted in FOLDER:
-            self.expect_of(f"folder: {words}", wanted, self.from_folder, words)
-        told = ("write failed after 0\n", 1)
-        for words, text in PRINTING + WRITING:
-            self.expect_of(f"full: {words}", told, self.to_full, words, text)
-            self.expect_of(f"closed: {words}", told, self.to_closed, words, text)
-            wanted = told if (words, text) in WRITING else ("", 1)
-            self.expect_of(f"nobody: {words}", wanted, lambda: self.to_nobody(words, text)[:2])
-        self.expect_of("check to a pipe that is full", told, self.to_filled, "check", BEAT)
-        # Behind a read whose lines nobody takes there is no other.
-        self.expect_of("nobody, long", ("", 1, READ_AHEAD), self.to_nobody, "show", 10000 * BEAT)
-        self.outputs_fail_behind_some_bytes()
-        self.expect_of("mistake to full", (b"", 1), self.mistake_to_full)
-        # A record's event is shown once its last byte was read.
-        self.expect_of("at once", "1 HEARTBEAT\n2 HEARTBEAT\n", self.at_once, "show", BEAT + BEAT + "20\n{")
+        for args, text, out in GOOD:
+            self.stream(args, text, (out, "", 0))
+        for args, text, out in BAD:
+            self.stream(args, text, (out, "", 1))
+        for args, text, err in ERRORS:
+            self.stream(args, text, ("", err, 1))
+        for args in USAGE_ERRORS:
+            self.expect_of(f"usage error: {args}", ("", "error: ", 2, 0), self.usage_error, args)
+        for args, line in BAD_VALUES:
+            self.expect_of(f"bad value: {args[:60]}", ("", line, 2, 0), self.from_file, args, BEAT)
+        for args, part in HELP:
+            self.expect_of(f"help: {args} has {part!r}", (True, "", 0, 0), self.help, args, part)
+        for args in NOT_UTF_8:
+            self.expect_of(f"not UTF-8: {args}", (b"", b"error: a word is not UTF-8\n", 2), self.not_utf_8, args)
+        for args, expected in FOLDER:
+            self.expect_of(f"input is a folder: {args}", expected, self.from_folder, args)
+        self.failed_outputs()
+        # An event is printed once the last byte of its record was read.
+        self.expect_of("events are printed at once", "1 HEARTBEAT\n2 HEARTBEAT\n", self.at_once, "show", BEAT + BEAT + "20\n{")
 
-    def outputs_fail_behind_some_bytes(self):
-        for words, text, lines in LONG:
-            for good in (1, 12, len(lines) // 2, len(lines) - 1):
-                wanted = (lines[:good], f"write failed after {good}\n", 1)
-                if good < len(lines):
-                    self.expect_of(f"{words}, {text[:60]!r} to {good} bytes", wanted, self.to_short, words, text, good)
-            if len(lines) > PIPE and self.is_chosen(name := f"{words} to a full pipe"):
-                out, *told = self.to_slow(words, text)
-                wanted = (True, True, f"write failed after {len(out)}\n", 1)
-                self.expect(name, wanted, (out == lines[: len(out)], 0 < len(out) < len(lines), *told))
+    def failed_outputs(self):
+        failed = ("write failed after 0\n", 1)
+        for args, text in PRINTING + WRITING:
+            self.expect_of(f"output is full: {args}", failed, self.to_full, args, text)
+            self.expect_of(f"output is closed: {args}", failed, self.to_closed, args, text)
+            expected = failed if (args, text) in WRITING else ("", 1)
+            self.expect_of(f"output has no reader: {args}", expected, lambda: self.to_no_reader(args, text)[:2])
+        self.expect_of("output is a full pipe: check", failed, self.to_filled, "check", BEAT)
+        # After the write fails, nothing more is read.
+        self.expect_of("output has no reader: long input", ("", 1, READ_AHEAD), self.to_no_reader, "show", 10000 * BEAT)
+        for args, text, lines in LONG:
+            self.cut_outputs(args, text, lines)
+        self.expect_of("output is full: usage error", (b"", 1), self.usage_error_to_full)
+
+    def cut_outputs(self, args, text, lines):
+        """Lets writes fail after some bytes of the expected output."""
+        for size in (1, 12, len(lines) // 2, len(lines) - 1):
+            expected = (lines[:size], f"write failed after {size}\n", 1)
+            if size < len(lines):
+                name = f"output of {size} bytes: {args}, {text[:60]!r}"
+                self.expect_of(name, expected, self.to_short, args, text, size)
+        if len(lines) > PIPE and self.is_chosen(name := f"output is a pipe that fills: {args}"):
+            out, *ended = self.to_slow(args, text)
+            expected = (True, True, f"write failed after {len(out)}\n", 1)
+            self.expect(name, expected, (out == lines[: len(out)], 0 < len(out) < len(lines), *ended))
 
 
 def main():
-    arguments = parser(__doc__, "program").parse_args()
+    arguments = parser(__doc__, "tests/lines.py $(tools/built checked) -k replay", "program").parse_args()
     tests = Tests(arguments.program, arguments.word)
     tests.run()
     return tests.end()

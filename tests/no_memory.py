@@ -1,15 +1,20 @@
 #!/usr/bin/env python3
-"""Runs a built mesosev again and again, and lets each growth of the heap fail in turn, alone and with all behind it.
+"""Runs the built command again and again, and makes each allocation fail in turn.
 
-A run of PROGRAM must end as the one with ample memory does, or tell want of memory (F13) in its last
-line, with status 1, after some of the same lines. `serve` is asked by a client and `subscribe` answered by a server of this script. ANSWERS
-is a built program that prints the answers of public calls, one in a line: each line must be that of the run with ample memory, or have
-`no memory` where memory was refused, and behind it what the call answered when it was asked again; where the line says behind how many
-bytes that was, these must be as many as the parts before and behind it leave. WORLDS is `mes_double_worlds` as it was built: each list of moves leads to
-the world of the run with ample memory, or of one it says `no memory`. Each growth of an input is refused alone, and of one that
-makes more than 4,000 so many, spread over all of them; with all behind them at most 200, spread likewise. Where any is left out a line says
-how many were refused. Needs a C compiler (cc); without one it says so and tries nothing. A case has the name of what is run, as
-"check of some events". The last line is 'N passed, M failed'.
+Each allocation of a run fails alone, and then with all later ones. If a run makes more than 4,000
+(200 with all later ones), that many are spread over all, and a line prints their number. A run of
+PROGRAM must end as with ample memory, or print a first part of the same lines and then fault F13,
+with status 1. `serve` and `subscribe` are connected to clients and servers of this script.
+
+EXAMPLES is the built program of crates/mesosev_examples, which prints a line for each public call.
+A line must be the same as with ample memory, or have `no memory` and then the results of the
+repeated call. If the line reports the number of bytes used by then, it must lie between the
+positions that the results before and after it report. WORLDS is the built program of
+crates/mes_double_worlds. Each list of moves must lead to the same world as with ample memory, or to
+`no memory`.
+
+A case has the name of its run, such as "check of some events". Without a C compiler (cc) all cases
+are skipped.
 """
 import concurrent.futures
 import functools
@@ -24,15 +29,15 @@ import tempfile
 import threading
 import time
 
-sys.dont_write_bytecode = True  # Nothing is left beside the scripts.
+sys.dont_write_bytecode = True
 import support
 from support import TOP, Cases, chunked, parser, read_all, record
 
-# How long a run may take, in seconds.
+# The time limit of a run, in seconds.
 LIMIT = 120
-# How many growths of an input are refused alone, and how many with all behind them. Of one that makes more, they are spread over all.
-ALONE_MOST = 4000
-ALL_MOST = 200
+# The most allocations of a run that fail alone, and with all later ones.
+MAX_ALONE = 4000
+MAX_WITH_LATER = 200
 
 HEARTBEAT = support.BEAT.encode()
 UPDATE = (
@@ -47,7 +52,7 @@ OFFERS = (
 
 
 def offer(number, rest=b""):
-    """An offer whose texts are too long to stand in the value itself."""
+    """Returns an offer with texts that are too long to be stored inline."""
     return (
         b'{"id":{"value":"an offer of a long identifier %d"},"framework_id":{"value":"F1"},"agent_id":{"value":"an agent of a long identifier"},'
         b'"hostname":"a host of a long name"%s}' % (number, rest)
@@ -59,7 +64,7 @@ def offers(list_of):
 
 
 def update(number):
-    """An update that owes an acknowledgement by a key of its own."""
+    """Returns an update that requires an acknowledgement, with a key of its own."""
     return (
         b'{"type":"UPDATE","update":{"status":{"task_id":{"value":"a task of a long identifier %d"},"state":"TASK_RUNNING",'
         b'"agent_id":{"value":"an agent of a long identifier"},"uuid":"AAECAwQFBgcICQoLDA0ODw=="}}}' % number
@@ -70,8 +75,9 @@ PLAIN = HEARTBEAT + record(UPDATE) + record(OFFERS) + record(b'{"type":"X"}')
 LONG_TEXT = record(b'{"type":"HEARTBEAT","a":"' + b"x" * 300 + b'"}')
 SPACES = record(b" " * 4000 + b'{"type":"HEARTBEAT"}')
 
-# Events of each kind of growth: long texts with escapes, bytes and numbers; long lists; many members, unknown ones and all that are known;
-# arrays and objects as deep as they may nest, in a member that is dropped and in one that is kept; many keys that are owed.
+# Events for each kind of allocation: long texts with escapes, bytes and numbers; long lists; many unknown
+# members, and all known ones; the deepest arrays and objects, in a member that is dropped and in one that is
+# stored; many unacknowledged updates.
 LONG_TEXTS = [
     b'{"type":"ERROR","error":{"message":"%s"}}' % (b"a text \\u00e9\\n\\ud834\\udd1e" * 400),
     b'{"type":"MESSAGE","message":{"agent_id":{"value":"%s"},"executor_id":{"value":"E"},"data":"%s"}}' % (b"A" * 2000, b"Zm9v" * 2000),
@@ -111,7 +117,7 @@ EVENTS = {
 }
 STREAMS = {"some events": PLAIN, **{name: b"".join(map(record, events)) for name, events in EVENTS.items()}}
 
-# A SUBSCRIBE of short texts, and one with what a call may have of those kinds.
+# A SUBSCRIBE of short texts, and one with as many of those kinds as a call can have.
 SUBSCRIBE = b'{"type":"SUBSCRIBE","subscribe":{"framework_info":{"user":"root","name":"n"}}}'
 LARGE_SUBSCRIBE = b'{"type":"SUBSCRIBE","x":[%s],%s,"subscribe":{"framework_info":{"user":"%s","name":"%s","roles":[%s],"capabilities":[%s]}}}' % (
     DEEP_ARRAYS,
@@ -122,8 +128,8 @@ LARGE_SUBSCRIBE = b'{"type":"SUBSCRIBE","x":[%s],%s,"subscribe":{"framework_info
     b",".join([b'{"type":"a capability of a long name"}'] * 60),
 )
 
-# A session log of version 1: a framework, whose identifier takes memory, offers and an update that it heard, and an acknowledgement that
-# it sent; and one of version 2 with a break behind them.
+# A session log of version 1: a framework whose id is allocated, offers, an update and its acknowledgement. Then
+# the same log in version 2, with a disconnection at its end.
 FRAMEWORK = b"F" * 20
 SUBSCRIBED = b'E{"type":"SUBSCRIBED","subscribed":{"framework_id":{"value":"%s"}}}' % FRAMEWORK
 LOG = b"".join([
@@ -135,19 +141,20 @@ LOG = b"".join([
         b'"uuid":"AAECAwQFBgcICQoLDA0ODw=="}}' % FRAMEWORK
     ),
 ])
-BROKEN_LOG = b"1\n2" + LOG + b"1\nB"
-# Logs of sessions that have many offers in hand, brought by few events and by many, and of one that owes many acknowledgements.
+DISCONNECTED_LOG = b"1\n2" + LOG + b"1\nB"
+# Logs of sessions with many outstanding offers, from few events and from many, and with many unacknowledged
+# updates.
 DECLINE = b'C{"type":"DECLINE","framework_id":{"value":"%s"},"decline":{"offer_ids":[%s]}}' % (
     FRAMEWORK,
     b",".join(b'{"value":"an offer of a long identifier %d"}' % number for number in range(0, 200, 3)),
 )
-IN_HAND_LOG = record(SUBSCRIBED) + record(b"E" + MANY_OFFERS[0]) + record(DECLINE)
+MANY_OFFERS_LOG = record(SUBSCRIBED) + record(b"E" + MANY_OFFERS[0]) + record(DECLINE)
 MANY_EVENTS_LOG = record(SUBSCRIBED) + b"".join(record(b"E" + offers([offer(number)])) for number in range(200))
-OWED_LOG = record(SUBSCRIBED) + b"".join(record(b"E" + update(number)) for number in range(200))
+MANY_UPDATES_LOG = record(SUBSCRIBED) + b"".join(record(b"E" + update(number)) for number in range(200))
 
 
 def task(number):
-    """A task with long texts, long lists, unknown members, and as deep as a task of a call may nest, on ports of its own."""
+    """Returns a task with long texts, long lists, unknown members, the greatest depth in a call, and its own ports."""
     return (
         b'{"name":"%s","task_id":{"value":"a task of a long identifier %d"},"agent_id":{"value":"an agent of a long identifier"},'
         b'"resources":[{"name":"ports","type":"RANGES","ranges":{"range":[%s]}}],"command":{"value":"a command of some length",'
@@ -164,7 +171,7 @@ def task(number):
 
 
 def accept(framework):
-    """A call with each kind of growth: it launches tasks on the offer of MANY_RESOURCES."""
+    """Returns a call with each kind of allocation, which launches tasks on the offer of MANY_RESOURCES."""
     return (
         b'{"type":"ACCEPT","framework_id":{"value":"%s"},"accept":{"offer_ids":[{"value":"an offer of a long identifier 0"}],'
         b'"operations":[{"type":"LAUNCH","launch":{"task_infos":[%s]}}],"filters":{"refuse_seconds":1.5}}}'
@@ -174,52 +181,52 @@ def accept(framework):
 LAUNCH_LOG = record(SUBSCRIBED) + record(b"E" + MANY_RESOURCES[0]) + record(b"C" + accept(FRAMEWORK))
 LOGS = {
     "a log": LOG,
-    "a log with a break": BROKEN_LOG,
-    "many offers in hand": IN_HAND_LOG,
-    "many keys owed": OWED_LOG,
+    "a log with a disconnection": DISCONNECTED_LOG,
+    "many outstanding offers": MANY_OFFERS_LOG,
+    "many unacknowledged updates": MANY_UPDATES_LOG,
     "tasks launched": LAUNCH_LOG,
     **{name: record(SUBSCRIBED) + b"".join(record(b"E" + event) for event in EVENTS[name]) for name in EVENTS if name != "many offers"},
 }
 
-# What is run: a name of the input, the words, and the input.
+# The name of an input, the arguments, and the input.
 CASES = [
     *((name, [command], data) for command in ("check", "show", "convert", "loopback") for name, data in STREAMS.items()),
     *((name, [command], data) for command in ("replay", "relog") for name, data in LOGS.items()),
-    ("many events heard", ["replay"], MANY_EVENTS_LOG),
+    ("many events", ["replay"], MANY_EVENTS_LOG),
     ("a fault", ["check"], b"2\n{}"),
     ("some events", ["convert", "--most", "7"], PLAIN),
     ("many offers", ["convert", "--most", "4096"], STREAMS["many offers"]),
     ("some events", ["check", "--chunked"], chunked(PLAIN, 30)),
     ("some events", ["show", "--chunked"], chunked(PLAIN, 4096)),
     ("some events", ["loopback", "--most", "7"], PLAIN),
-    ("nobody listens", ["subscribe", "--to", "127.0.0.1:1", "--user", "u" * 40, "--name", "n" * 40], b""),
-    ("bad words", ["serve", "--port", "1", "--count", "0"], b""),
-    ("bad words", ["check", "--limit", "0"], b""),
+    ("a port without a server", ["subscribe", "--to", "127.0.0.1:1", "--user", "u" * 40, "--name", "n" * 40], b""),
+    ("a usage error", ["serve", "--port", "1", "--count", "0"], b""),
+    ("a usage error", ["check", "--limit", "0"], b""),
     ("help", ["--help"], b""),
 ]
-# What `serve` is run on: the same, and the calls that it is asked, one after the other.
+# The name of an input of `serve`, the input, and the calls that clients send, one after the other.
 SERVED = [
     *((name, data, [SUBSCRIBE]) for name, data in STREAMS.items()),
     ("some events by a large call", PLAIN, [LARGE_SUBSCRIBE]),
     ("tasks launched", STREAMS["many resources"], [SUBSCRIBE, accept(b"F1")]),
 ]
-# Inputs of the cases that no run ends well with.
-ENDING_BADLY = {"a fault", "nobody listens", "bad words"}
+# The inputs with which the status is not 0.
+FAILING = {"a fault", "a port without a server", "a usage error"}
 
-LACKS = re.compile(rb"fault F13 NoMemory after (\d+)\n")
-# An event of a log that no memory is left for is told in its own words.
-LACKS_EVENT = re.compile(rb"refused S8 NoMemory record (\d+)\n")
+NO_MEMORY_LINE = re.compile(rb"fault F13 NoMemory after (\d+)\n")
+# The line for an event of a log whose effect cannot be stored.
+NO_MEMORY_EVENT = re.compile(rb"refused S8 NoMemory record (\d+)\n")
 
 
 class Program:
-    """A built program, started with a heap that refuses."""
+    """A built program, whose allocations can fail."""
 
     def __init__(self, path, library):
         self.path = os.path.abspath(path)
         self.library = library
 
-    def start(self, words, data, refused_at=0, refuses_all=False, count=None):
-        """Starts it on these bytes; `count` is a file for how many growths were asked for."""
+    def start(self, args, data, refused_at=0, refuses_all=False, count=None):
+        """Starts it on these bytes. It writes the number of its allocations to the file `count`."""
         env = {"LD_PRELOAD": self.library, "REFUSE_AT": str(refused_at)}
         if refuses_all:
             env["REFUSE_ALL"] = "1"
@@ -228,15 +235,15 @@ class Program:
         with tempfile.TemporaryFile() as stdin:
             stdin.write(data)
             stdin.seek(0)
-            return subprocess.Popen([self.path, *words], stdin=stdin, stdout=subprocess.PIPE, stderr=subprocess.PIPE, env=env)
+            return subprocess.Popen([self.path, *args], stdin=stdin, stdout=subprocess.PIPE, stderr=subprocess.PIPE, env=env)
 
-    def run(self, words, data, refused_at=0, refuses_all=False, count=None):
-        """The status, and what was written to the two outputs."""
-        return outcome(self.start(words, data, refused_at, refuses_all, count))
+    def run(self, args, data, refused_at=0, refuses_all=False, count=None):
+        """Returns the status and both outputs of a run."""
+        return outcome(self.start(args, data, refused_at, refuses_all, count))
 
 
 def outcome(process):
-    """The status of a program that ends, and what it wrote to the two outputs."""
+    """Waits for the end of a process, and returns its status and both outputs."""
     try:
         out, err = process.communicate(timeout=LIMIT)
     except subprocess.TimeoutExpired:
@@ -246,103 +253,117 @@ def outcome(process):
 
 
 class Trial:
-    """The runs of one input: with ample memory, and with growths refused. `run` takes the refused growth, whether all behind it are
-    refused too, and the file for how many were asked for."""
+    """The runs of one input: with ample memory, and with failed allocations.
+
+    The arguments of `run` are the number of the failed allocation, whether all later ones fail too,
+    and the file for the number of allocations.
+    """
 
     def __init__(self, name, run, room):
         self.name, self.run = name, run
         count = f"{room}/count"
         self.ample = run(0, False, count)
         with open(count, encoding="ascii") as it:
-            self.asked = int(it.read())
+            self.total = int(it.read())
 
-    def refusals(self, alone_most, all_most):
-        """Which growths are refused: pairs of a number, and whether all behind it are refused too."""
-        alone, every = spread(self.asked, alone_most), spread(self.asked, all_most)
-        if len(every) < self.asked:
-            print(f"{self.name}: {len(alone)} of {self.asked} growths refused alone, {len(every)} with all behind them")
-        return [(number, False) for number in alone] + [(number, True) for number in every]
+    def failures(self, max_alone, max_with_later):
+        """Returns the allocations that are to fail: pairs of a number, and whether all later ones fail too."""
+        alone, with_later = spread(self.total, max_alone), spread(self.total, max_with_later)
+        if len(with_later) < self.total:
+            print(f"{self.name}: {len(alone)} of {self.total} allocations fail alone, {len(with_later)} with all later ones")
+        return [(number, False) for number in alone] + [(number, True) for number in with_later]
 
-    def refuse(self, pool, alone_most=ALONE_MOST, all_most=ALL_MOST):
-        """Refuses growths; returns what each run answered."""
-        refusals = self.refusals(alone_most, all_most)
-        self.answers = dict(zip(refusals, pool.map(lambda it: self.run(*it, None), refusals)))
-        return self.answers
+    def run_all(self, pool, max_alone=MAX_ALONE, max_with_later=MAX_WITH_LATER):
+        """Runs the program with failed allocations. Returns the outcome of each run."""
+        failures = self.failures(max_alone, max_with_later)
+        self.outcomes = dict(zip(failures, pool.map(lambda it: self.run(*it, None), failures)))
+        return self.outcomes
 
     def wrong(self, is_right, pool):
-        """What was wrong in the runs in which growths were refused."""
-        return [self.told(*it) for it, got in self.refuse(pool).items() if not is_right(self.ample, got, it[1])]
+        """Describes the runs whose outcome is wrong."""
+        return [self.row(*it) for it, got in self.run_all(pool).items() if not is_right(self.ample, got, it[1])]
 
-    def told(self, number, refuses_all):
-        which = "and all behind it " if refuses_all else ""
-        return f"{self.name}: growth {number} of {self.asked} {which}refused: {shortened(self.answers[number, refuses_all])}"
+    def row(self, number, refuses_all):
+        """Describes a run: which allocation fails, the outcome with ample memory, and the outcome."""
+        which = " and all later ones fail" if refuses_all else " fails"
+        return (
+            f"input:    {self.name}, allocation {number} of {self.total}{which}"
+            f"\n  expected: no memory, or as with ample memory: {shortened(self.ample)}"
+            f"\n  got:      {shortened(self.outcomes[number, refuses_all])}"
+        )
 
-
-def spread(asked, most):
-    """At most so many of the numbers from 1: all, or the first, the last, and between them at one distance."""
-    if asked <= most:
-        return range(1, asked + 1)
-    ends = most // 4
-    between = [ends + 1 + (asked - 2 * ends) * at // (most - 2 * ends) for at in range(most - 2 * ends)]
-    return sorted(set(range(1, ends + 1)) | set(between) | set(range(asked - ends + 1, asked + 1)))
-
-
-def shortened(answer):
-    return ", ".join(repr(it[-200:]) if isinstance(it, bytes) else repr(it) for it in answer)
+    def ample_row(self):
+        """Describes the run with ample memory, which has failed."""
+        return f"input:    {self.name}, ample memory\n  got:      {shortened(self.ample)}"
 
 
-def lacks(written, ample, size):
-    """Whether the text is some whole lines of the ample run's, not its last one, and then the line of want of memory, behind at most so many
-    bytes."""
-    found = LACKS.search(written)
+def spread(total, limit):
+    """Returns at most `limit` of the numbers 1 to `total`: all, or the first, the last, and others at equal distances."""
+    if total <= limit:
+        return range(1, total + 1)
+    ends = limit // 4
+    between = [ends + 1 + (total - 2 * ends) * at // (limit - 2 * ends) for at in range(limit - 2 * ends)]
+    return sorted(set(range(1, ends + 1)) | set(between) | set(range(total - ends + 1, total + 1)))
+
+
+def shortened(outcome):
+    return ", ".join(repr(it[-200:]) if isinstance(it, bytes) else repr(it) for it in outcome)
+
+
+def ends_in_no_memory(written, ample, size):
+    """Returns whether the text is first lines of the ample run, except its last line, and then fault F13 after at
+    most `size` bytes."""
+    found = NO_MEMORY_LINE.search(written)
     if not found or found.end() != len(written) or int(found[1]) > size:
         return False
     front = written[: found.start()]
     return front[-1:] in (b"", b"\n") and ample[: ample.rfind(b"\n", 0, -1) + 1].startswith(front)
 
 
-def is_front(given, ample, got, _=False):
-    """What is printed as it is read: some lines of the ample run and want of memory, or all. It is told of the bytes that were given, or of
-    those that came over a connection: the ample run's last line ends in how many."""
-    came = re.search(rb" (\d+)\n\Z", ample[1])
-    return got == ample or (got[0] == 1 and got[2] == b"" and lacks(got[1], ample[1], max(given, int(came[1]) if came else 0)))
+def is_front(size, ample, got, _=False):
+    """Returns whether output that is printed as the input is read is right: first lines of the ample run and fault
+    F13, or all lines. The input has `size` bytes; that of a connection as many as the last line reports."""
+    received = re.search(rb" (\d+)\n\Z", ample[1])
+    size = max(size, int(received[1]) if received else 0)
+    return got == ample or (got[0] == 1 and got[2] == b"" and ends_in_no_memory(got[1], ample[1], size))
 
 
 def is_whole(size, ample, got, _=False):
-    """What is written whole: all or nothing, and where want of memory is told."""
+    """Returns whether output that is written as a whole is right: all, or nothing and fault F13."""
     if got == ample:
         return True
     status, out, err = got
-    # Before the words are read it is not known that standard output is for events alone.
-    return status == 1 and ((out == b"" and lacks(err, b"", size)) or (err == b"" and out == b"fault F13 NoMemory after 0\n"))
+    # Until the arguments are parsed, F13 goes to standard output.
+    return status == 1 and ((out == b"" and ends_in_no_memory(err, b"", size)) or (err == b"" and out == b"fault F13 NoMemory after 0\n"))
 
 
 def is_replayed(events, size, ample, got, _=False):
-    """A report, or want of memory: of the reading or of the report, or of one of the events, which stand before any call."""
+    """Returns whether the output of `replay` is right: a report, fault F13, or S8 for one of the first `events`
+    records, which are events."""
     if got == ample:
         return True
     status, out, err = got
-    found = LACKS_EVENT.fullmatch(out)
-    return status == 1 and err == b"" and (lacks(out, b"", size) or (found is not None and 1 <= int(found[1]) <= events))
+    found = NO_MEMORY_EVENT.fullmatch(out)
+    return status == 1 and err == b"" and (ends_in_no_memory(out, b"", size) or (found is not None and 1 <= int(found[1]) <= events))
 
 
-def right_of(words, data):
-    """What tells whether a run of these words on these bytes is right."""
-    if words[0] == "replay":
+def predicate_of(args, data):
+    """Returns the function that decides whether a run with these arguments on these bytes is right."""
+    if args[0] == "replay":
         return functools.partial(is_replayed, data.count(b"\nE"), len(data))
-    return functools.partial(is_whole if words[0] in ("convert", "relog") else is_front, len(data))
+    return functools.partial(is_whole if args[0] in ("convert", "relog") else is_front, len(data))
 
 
-def try_case(program, room, pool, name, words, data):
-    """Lets growths fail in turn; returns what was wrong."""
-    trial = Trial(f"{' '.join(words[:2])} of {name}", lambda *refused: program.run(words, data, *refused), room)
-    if (trial.ample[0] != 0) != (name in ENDING_BADLY):
-        return [f"{trial.name}: with ample memory: {shortened(trial.ample)}"]
-    return trial.wrong(right_of(words, data), pool)
+def try_case(program, room, pool, name, args, data):
+    """Makes allocations fail in turn. Returns the rows that are wrong."""
+    trial = Trial(f"{' '.join(args[:2])} of {name}", lambda *failed: program.run(args, data, *failed), room)
+    if (trial.ample[0] != 0) != (name in FAILING):
+        return [trial.ample_row()]
+    return trial.wrong(predicate_of(args, data), pool)
 
 
 def free_ports():
-    """Ports that nobody listens on, below those that sockets are given for themselves."""
+    """Yields free ports below those that the system assigns to sockets."""
     for port in itertools.cycle(range(20000, 32000)):
         with socket.socket() as it:
             it.setsockopt(socket.SOL_SOCKET, socket.SO_REUSEADDR, 1)
@@ -354,7 +375,8 @@ def free_ports():
 
 
 def ask(process, port, call):
-    """What a client of the program on this port is answered to a call on the first stream; none where the program ends before it listens."""
+    """Sends a call on the first stream to the program on this port, and returns the response, or None if the
+    program ends before it listens."""
     head = (
         b"POST /api/v1/scheduler HTTP/1.1\r\nHost: h\r\nContent-Type: application/json\r\nContent-Length: %d\r\n"
         b"Mesos-Stream-Id: 00000000-0000-4000-8000-000000000001\r\n\r\n" % len(call)
@@ -371,60 +393,64 @@ def ask(process, port, call):
 
 
 def try_served(program, room, pool, ports, name, data, calls):
-    """`serve` for a connection a call: what its client is answered to each, beside the status and the outputs."""
+    """Makes allocations of `serve` fail. Each call is a connection, whose response belongs to the outcome."""
     lock = threading.Lock()
 
-    def run(asked, *refused):
+    def run(sent, *failed):
         with lock:
             port = next(ports)
-        process = program.start(["serve", "--port", str(port), "--count", str(len(asked))], data, *refused)
-        came = [ask(process, port, call) for call in asked]
-        return (*outcome(process), *came)
+        process = program.start(["serve", "--port", str(port), "--count", str(len(sent))], data, *failed)
+        responses = [ask(process, port, call) for call in sent]
+        return (*outcome(process), *responses)
 
     trial = Trial(f"serve of {name}", functools.partial(run, calls), room)
-    unheard = run(calls[1:]) if calls[1:] else (0, b"", b"")
+    unsubscribed = run(calls[1:]) if calls[1:] else (0, b"", b"")
     if trial.ample[:3] != (0, b"200 SUBSCRIBE\n" + b"202 ACCEPT\n" * len(calls[1:]), b""):
-        return [f"{trial.name}: with ample memory: {shortened(trial.ample)}"]
-    return trial.wrong(functools.partial(is_served, connections(unheard), len(data)), pool)
+        return [trial.ample_row()]
+    return trial.wrong(functools.partial(is_served, connections(unsubscribed), len(data)), pool)
 
 
 def connections(ran):
-    """The line of each connection, and what its client was answered."""
+    """Returns the line and the response of each connection."""
     return list(itertools.zip_longest(ran[1].splitlines(keepends=True), ran[3:]))
 
 
-def has_answer(wanted, got):
-    """Whether a connection has this line and this answer; or nothing, and what of the call was known."""
-    return got in (wanted, (b"- -\n", b""), (b"- " + wanted[0].split()[1] + b"\n", b""))
+def is_same_or_closed(expected, got):
+    """Returns whether a connection has the expected line and response, or was closed without a response."""
+    return got in (expected, (b"- -\n", b""), (b"- " + expected[0].split()[1] + b"\n", b""))
 
 
-def is_served(unheard, size, ample, got, refuses_all):
-    """Each connection has its ample answer, or nothing, and of those at most one where one growth was refused; behind a SUBSCRIBE that has
-    nothing a call may be answered as where none was heard. Or there is no connection, and want of memory."""
-    status, out, err, *came = got
-    if came[0] is None:
-        return status == 1 and err == b"" and lacks(out, b"", size)
-    wanted, answers = connections(ample), connections(got)
-    if (status, err, len(answers)) != (0, b"", len(wanted)):
+def is_served(unsubscribed, size, ample, got, refuses_all):
+    """Returns whether the outcome of `serve` is right.
+
+    Each connection has the same response as with ample memory, or none. If only one allocation
+    failed, at most one has none. If SUBSCRIBE has no response, a later call may have that of a
+    master without a subscription. Otherwise there is no connection, and fault F13.
+    """
+    status, out, err, *responses = got
+    if responses[0] is None:
+        return status == 1 and err == b"" and ends_in_no_memory(out, b"", size)
+    expected, found = connections(ample), connections(got)
+    if (status, err, len(found)) != (0, b"", len(expected)):
         return False
-    may_have = [[want] for want in wanted]
-    if answers[0] != wanted[0]:
-        may_have[1:] = [[*may, other] for may, other in zip(may_have[1:], unheard)]
-    lacking = [(want, answer) for want, answer, may in zip(wanted, answers, may_have) if answer not in may]
-    return all(has_answer(*it) for it in lacking) and (refuses_all or len(lacking) <= 1)
+    allowed = [[it] for it in expected]
+    if found[0] != expected[0]:
+        allowed[1:] = [[*may, other] for may, other in zip(allowed[1:], unsubscribed)]
+    others = [(one, other) for one, other, may in zip(expected, found, allowed) if other not in may]
+    return all(is_same_or_closed(*it) for it in others) and (refuses_all or len(others) <= 1)
 
 
 class Server:
-    """A server that answers each request by a stream, and keeps what it was asked."""
+    """A server that sends the same response to each request, and records the requests."""
 
-    def __init__(self, answer):
+    def __init__(self, response):
         self.listener = socket.create_server(("127.0.0.1", 0), backlog=64)
-        self.port, self.answer, self.asked = self.listener.getsockname()[1], answer, set()
+        self.port, self.response, self.requests = self.listener.getsockname()[1], response, set()
         self.serving = threading.Thread(target=self.serve, daemon=True)
         self.serving.start()
 
     def close(self):
-        """Takes no more connections. The thread ends first, so that it can't take one from a later server whose socket has the same number."""
+        """Accepts no more connections. The thread ends first: a later server's socket may get the same number."""
         self.listener.shutdown(socket.SHUT_RDWR)
         self.serving.join()
         self.listener.close()
@@ -435,240 +461,255 @@ class Server:
                 client, _ = self.listener.accept()
             except OSError:
                 return
-            threading.Thread(target=self.answer_one, args=(client,), daemon=True).start()
+            threading.Thread(target=self.serve_one, args=(client,), daemon=True).start()
 
-    def answer_one(self, client):
+    def serve_one(self, client):
         with client:
             client.settimeout(LIMIT)
             try:
-                self.asked.add(read_request(client))
-                client.sendall(self.answer)
+                self.requests.add(read_request(client))
+                client.sendall(self.response)
             except OSError:
                 pass
 
 
 def read_request(client):
-    """The head and the body of a request, as far as they come."""
-    came = b""
+    """Reads a request up to the end of its body or of the connection, and returns the bytes."""
+    received = b""
     while True:
-        head, end, body = came.partition(b"\r\n\r\n")
+        head, end, body = received.partition(b"\r\n\r\n")
         length = re.search(rb"Content-Length: (\d+)", head)
         if end and length and len(body) >= int(length[1]):
-            return came
+            return received
         more = client.recv(65536)
         if not more:
-            return came
-        came += more
+            return received
+        received += more
 
 
-def try_shown(program, room, pool, name, data):
-    """`subscribe` to a server that sends these events: what is shown, and that each request is whole or none."""
+def try_subscribed(program, room, pool, name, data):
+    """Makes allocations of `subscribe` fail. Its server must receive the whole request or no byte."""
     head = b"HTTP/1.1 200 OK\r\nContent-Type: application/json\r\nTransfer-Encoding: chunked\r\nMesos-Stream-Id: s1\r\n\r\n"
     server = Server(head + chunked(data, 4096))
-    words = ["subscribe", "--to", f"127.0.0.1:{server.port}", "--user", "u" * 4000, "--name", "n" * 40]
-    trial = Trial(f"subscribe to {name}", lambda *refused: program.run(words, data, *refused), room)
-    request = set(server.asked)
+    args = ["subscribe", "--to", f"127.0.0.1:{server.port}", "--user", "u" * 4000, "--name", "n" * 40]
+    trial = Trial(f"subscribe to {name}", lambda *failed: program.run(args, data, *failed), room)
+    request = set(server.requests)
     if trial.ample[0] != 0 or len(request) != 1:
-        return [f"{trial.name}: with ample memory: {shortened(trial.ample)}"]
+        return [trial.ample_row()]
     wrong = trial.wrong(functools.partial(is_front, 0), pool)
     server.close()
-    if not server.asked <= request | {b""}:
-        wrong.append(f"{trial.name}: what the server was asked: {sorted(server.asked - request)[:3]}")
+    if not server.requests <= request | {b""}:
+        wrong.append(f"{trial.name}: other requests: {sorted(server.requests - request)[:3]}")
     return wrong
 
 
-def asked_of(program, room, words, data):
-    """How many growths a run with ample memory asks for."""
-    return Trial(" ".join(words), lambda *refused: program.run(words, data, *refused), room).asked
+def total_of(program, room, args, data):
+    """Returns the number of allocations of a run with ample memory."""
+    return Trial(" ".join(args), lambda *failed: program.run(args, data, *failed), room).total
 
 
-def each_out(program, room, pool, words, data, refuses_all=False):
-    """What is written to standard output where each growth in turn is refused."""
-    numbers = range(1, asked_of(program, room, words, data) + 1)
-    return [out for _, out, _ in pool.map(lambda number: program.run(words, data, number, refuses_all), numbers)]
+def outputs(program, room, pool, args, data, refuses_all=False):
+    """Returns the standard output of the runs in which each allocation fails in turn."""
+    numbers = range(1, total_of(program, room, args, data) + 1)
+    return [out for _, out, _ in pool.map(lambda number: program.run(args, data, number, refuses_all), numbers)]
 
 
 def try_spaces(program, room, pool):
-    """The bytes of a record aren't kept: what is refused first is wanted behind its 4,000 spaces."""
-    found = [LACKS.search(out) for out in each_out(program, room, pool, ["check"], SPACES)]
+    """Checks that the bytes of a record are not stored: the first allocation comes after its 4,000 spaces."""
+    found = [NO_MEMORY_LINE.search(out) for out in outputs(program, room, pool, ["check"], SPACES)]
     after = [int(it[1]) for it in found if it and int(it[1]) > 0]
     if after and min(after) > 4005:
         return []
-    return [f"a record of spaces: want of memory after {sorted(set(after))}"]
+    return [f"input:    check of a record of spaces\n  expected: F13 after more than 4005\n  got:      F13 after {sorted(set(after))}"]
 
 
-def try_run(program, room, pool):
-    """Want of memory stands on the very byte whose growth was refused, and of characters that are taken together behind those that
-    there was room for. All texts of a record stand in one buffer, which grows as any vector of bytes does: to 8, to 16, and then to as
-    many as it needs or twice as many."""
+def try_long_text(program, room, pool):
+    """Checks that F13 reports the byte whose allocation failed.
+
+    Of characters that are read together, it is the one after those that fitted. All texts of a
+    record are in one buffer. Its capacity grows to 8 bytes, to 16, and then to the needed size or
+    twice the old one.
+    """
     first = LONG_TEXT.index(b"xx") + 1
     before = len("type" + "HEARTBEAT" + "a")
-    places = {
-        0,  # what the command's own words and its input take, before a byte is read
+    expected = {
+        0,  # the arguments and the input buffer, before a byte is read
         LONG_TEXT.index(b"{") + 1,  # the first token
         LONG_TEXT.index(b"type") + 1,  # the first 8 bytes of texts
         LONG_TEXT.index(b"HEARTBEAT") + 1 + 8 - len("type"),  # 16 of them
         first + 16 - before,  # the 300 characters
-        first + 300,  # the fifth token, behind them
+        first + 300,  # the fifth token, after them
         len(LONG_TEXT),  # the list of events
     }
-    found = [LACKS.search(out) for out in each_out(program, room, pool, ["check"], LONG_TEXT, True)]
+    found = [NO_MEMORY_LINE.search(out) for out in outputs(program, room, pool, ["check"], LONG_TEXT, True)]
     after = {int(it[1]) for it in found if it}
-    if after == places:
+    if after == expected:
         return []
-    return [f"a text of 300 characters, the first of which is byte {first}: want of memory after {sorted(after)}, not {sorted(places)}"]
+    return [f"input:    check of {LONG_TEXT!r}\n  expected: F13 after {sorted(expected)}\n  got:      F13 after {sorted(after)}"]
 
 
 def try_lines(program, room, pool):
-    """Want of memory for the lines of an event stands behind those of the event before it, after 0."""
-    told = set(each_out(program, room, pool, ["show"], PLAIN))
-    if b"1 HEARTBEAT\nfault F13 NoMemory after 0\n" in told:
+    """Checks that F13 for the lines of an event follows the lines of the event before it, and reports 0 bytes."""
+    printed = set(outputs(program, room, pool, ["show"], PLAIN))
+    expected = b"1 HEARTBEAT\nfault F13 NoMemory after 0\n"
+    if expected in printed:
         return []
-    return [f"show: no want of memory for the lines of an event, but {sorted(told)[:5]}"]
+    return [f"input:    show of {PLAIN!r}\n  expected: {expected!r} in a run\n  got:      {sorted(printed)[:5]}"]
 
 
 def try_replay(program, room, pool, log):
-    """Of a log that was read, want of memory is told for each of its events, and behind them for its report, after 0."""
-    told = each_out(program, room, pool, ["replay"], log)
-    events = [at for at, out in enumerate(told) if LACKS_EVENT.fullmatch(out)]
-    records = {int(LACKS_EVENT.fullmatch(told[at])[1]) for at in events}
-    behind = told[events[-1] + 1 :] if events else []
-    if records == {1, 2, 3} and b"fault F13 NoMemory after 0\n" in behind:
+    """Checks that S8 is printed for each event of a log, and then F13 for its report, after 0 bytes."""
+    printed = outputs(program, room, pool, ["replay"], log)
+    events = [at for at, out in enumerate(printed) if NO_MEMORY_EVENT.fullmatch(out)]
+    records = {int(NO_MEMORY_EVENT.fullmatch(printed[at])[1]) for at in events}
+    later = printed[events[-1] + 1 :] if events else []
+    if records == {1, 2, 3} and b"fault F13 NoMemory after 0\n" in later:
         return []
-    return [f"replay: want of memory is told of the records {sorted(records)}, and behind them {sorted(set(behind))[:5]}"]
+    return [
+        f"input:    replay of {log!r}\n  expected: S8 of the records 1, 2, 3, later F13 after 0"
+        f"\n  got:      S8 of the records {sorted(records)}, later {sorted(set(later))[:5]}"
+    ]
 
 
 def try_sizes(program, room):
-    """The size of a record takes no memory: a byte of the largest takes as many growths as one of the smallest event."""
+    """Checks that nothing is allocated for the size of a record: the largest needs no more allocations than the smallest."""
     sizes = [b"20\n{", b"16777216\n{", b"67108864\n{"]
-    asked = [asked_of(program, room, ["check", "--limit", "67108864"], data) for data in sizes]
-    return [] if len(set(asked)) == 1 else [f"growths by the size of a record: {asked}"]
+    totals = [total_of(program, room, ["check", "--limit", "67108864"], data) for data in sizes]
+    return [] if len(set(totals)) == 1 else [f"input:    {sizes}\n  expected: equal numbers of allocations\n  got:      {totals}"]
 
 
-# What an answer says where memory was refused: that alone, or behind how many bytes of a stream or a log, or at which entry of a log.
+# A line of the worked examples is a row: a name, and the results of its calls. The result `no memory` may have
+# the number of bytes used, or of the log's entry.
 NO_MEMORY = b"no memory"
-# What stands before a line that is no move.
+# What precedes a line that is not a move.
 NO_MOVE = b"no move: "
-WANT = re.compile(rb"no memory(?: after (?P<used>\d+)| in record (?P<record>\d+))?")
-# How many bytes were used up to a part, where it tells so, and how many entries a log has.
-PLACE = re.compile(rb"(?:at|after|bytes) (\d+)$")
+NO_MEMORY_RESULT = re.compile(rb"no memory(?: after (?P<used>\d+)| in record (?P<record>\d+))?")
+# The number of bytes used that a result reports, and the number of entries of a log.
+POSITION = re.compile(rb"(?:at|after|bytes) (\d+)$")
 ENTRIES = re.compile(rb"entries (\d+) bytes \d+")
 
 
 def row_of(line):
-    """The name of a row, and the parts of its answer."""
-    name, _, answer = line.partition(b": ")
-    return name, answer.split(b", ")
+    """Returns the name of a row, and its results."""
+    name, _, results = line.partition(b": ")
+    return name, results.split(b", ")
 
 
-def places_in(parts):
-    """The places that parts of an answer tell."""
-    return [int(it[1]) for it in map(PLACE.search, parts) if it]
+def positions_in(results):
+    """Returns the numbers of bytes used that the results report."""
+    return [int(it[1]) for it in map(POSITION.search, results) if it]
 
 
-def is_placed(want, before, behind):
-    """Whether memory may have been refused there: behind the last byte of each part that was told before it, and not behind that of any
-    part that was not; or at an entry of the log, whose entries were told."""
-    if want["used"]:
-        used, later = int(want["used"]), places_in(behind)
-        return bool(later) and max(places_in(before), default=-1) < used <= min(later)
-    if want["record"]:
+def is_in_place(result, before, after):
+    """Returns whether an allocation can have failed at the position of a result `no memory`.
+
+    The number of bytes used is greater than in each result before it, and not greater than in any
+    after it. The number of an entry is one of the log's.
+    """
+    if result["used"]:
+        used, later = int(result["used"]), positions_in(after)
+        return bool(later) and max(positions_in(before), default=-1) < used <= min(later)
+    if result["record"]:
         counts = [int(it[1]) for it in map(ENTRIES.fullmatch, before) if it]
-        return len(counts) == 1 and 1 <= int(want["record"]) <= counts[0]
+        return len(counts) == 1 and 1 <= int(result["record"]) <= counts[0]
     return True
 
 
-def is_answered(parts, same, rest):
-    """Whether behind a refusal the call was answered when it was asked again, or the whole row was; in the second case it may first be
-    told what the reading came to for whose events, or entries, memory was refused."""
-    if rest in (parts, parts[same:]):
+def is_repeated(results, same, rest):
+    """Returns whether `rest`, the results after `no memory`, has those of the repeated call or of the repeated row.
+
+    In a repeated row the results of the reading, and `no memory` for its events or entries, may come
+    first. The first `same` results are as with ample memory.
+    """
+    if rest in (results, results[same:]):
         return True
-    return rest[2:] == parts and rest[0] in parts[same:] and rest[1] == NO_MEMORY
+    return rest[2:] == results and rest[0] in results[same:] and rest[1] == NO_MEMORY
 
 
-def is_never_answered(parts, same, rest):
-    """Whether behind a refusal there are only more of them, and in front what the reading came to, as above."""
-    lacking = rest[1:] if rest[:1] and rest[0] in parts[same:] else rest
-    wants = [WANT.fullmatch(it) for it in lacking]
-    return bool(wants) and all(it and is_placed(it, [], parts) for it in wants)
+def is_only_refused(results, same, rest):
+    """Returns whether `rest` has only `no memory`, and perhaps the results of the reading first."""
+    refused = rest[1:] if rest[:1] and rest[0] in results[same:] else rest
+    found = [NO_MEMORY_RESULT.fullmatch(it) for it in refused]
+    return bool(found) and all(it and is_in_place(it, [], results) for it in found)
 
 
-def refusal_in(ample, got):
-    """How a row's answer tells a refusal, behind a front of the ample one: `answered` where the call, or the whole row, was answered when
-    it was asked again, `refused` where it never was; `none` where it is the ample answer, and `wrong` for any other."""
-    (name, parts), (got_name, got_parts) = row_of(ample), row_of(got)
+def kind_of(ample, got):
+    """Compares a row with that of the run with ample memory.
+
+    Returns `same`; `repeated` if a call failed and succeeded when it, or the row, was repeated;
+    `refused` if it never succeeded; `wrong` for any other row.
+    """
+    (name, results), (got_name, got_results) = row_of(ample), row_of(got)
     if got == ample:
-        return "none"
-    same = next((at for at, (one, other) in enumerate(zip(parts, got_parts)) if one != other), min(len(parts), len(got_parts)))
-    want = WANT.fullmatch(b"".join(got_parts[same : same + 1]))
-    if got_name != name or same == len(parts) or not want or not is_placed(want, parts[:same], parts[same:]):
+        return "same"
+    same = next((at for at, (one, other) in enumerate(zip(results, got_results)) if one != other), min(len(results), len(got_results)))
+    found = NO_MEMORY_RESULT.fullmatch(b"".join(got_results[same : same + 1]))
+    if got_name != name or same == len(results) or not found or not is_in_place(found, results[:same], results[same:]):
         return "wrong"
-    rest = got_parts[same + 1 :]
-    if is_answered(parts, same, rest):
-        return "answered"
-    return "refused" if is_never_answered(parts, same, rest) else "wrong"
+    rest = got_results[same + 1 :]
+    if is_repeated(results, same, rest):
+        return "repeated"
+    return "refused" if is_only_refused(results, same, rest) else "wrong"
 
 
-def rows_of(ample, got):
-    """How each row tells a refusal; none where the run has not the ample run's rows, or ended otherwise."""
+def kinds_of(ample, got):
+    """Returns the name and the kind of each row; None if the run has other rows, or ended differently."""
     lines, got_lines = ample[1].splitlines(), got[1].splitlines()
     if got[0] != 0 or got[2] != b"" or len(lines) != len(got_lines) or not got[1].endswith(b"\n"):
         return None
-    return [(row_of(one)[0], refusal_in(one, other)) for one, other in zip(lines, got_lines)]
+    return [(row_of(one)[0], kind_of(one, other)) for one, other in zip(lines, got_lines)]
 
 
-def is_one_row_refused(rows):
-    """One growth was refused: one row tells so at most, and was answered when it was asked again."""
-    told = [how for _, how in rows if how != "none"]
-    return told in ([], ["answered"])
+def is_one_repeated(rows):
+    """Returns whether at most one row differs, and has a repeated call, as after one failed allocation."""
+    return [kind for _, kind in rows if kind != "same"] in ([], ["repeated"])
 
 
-def are_all_refused(rows, wants):
-    """All growths behind one were refused: from the first row that tells so, each that wants memory does, and is never answered."""
-    first = next((at for at, (_, how) in enumerate(rows) if how != "none"), len(rows))
-    return all(how == ("refused" if name in wants else "none") for name, how in rows[first:])
+def are_all_refused(rows, allocating):
+    """Returns whether, from the first row that differs, each row that allocates is refused."""
+    first = next((at for at, (_, kind) in enumerate(rows) if kind != "same"), len(rows))
+    return all(kind == ("refused" if name in allocating else "same") for name, kind in rows[first:])
 
 
-def are_right(rows, refuses_all, wants):
-    """Whether the rows of a run are there, and tell of refusals what they may."""
+def are_right(rows, refuses_all, allocating):
+    """Returns whether the rows of a run are right."""
     if rows is None:
         return False
-    return are_all_refused(rows, wants) if refuses_all else is_one_row_refused(rows)
+    return are_all_refused(rows, allocating) if refuses_all else is_one_repeated(rows)
 
 
-def places_by_row(answers):
-    """Where each row was refused memory, as far as it says so, by the growths that were refused alone, in their order."""
-    places = {}
-    for (_, refuses_all), got in sorted(answers.items()):
-        for name, parts in [] if refuses_all else map(row_of, got[1].splitlines()):
-            want = next((it for it in map(WANT.fullmatch, parts) if it and it.lastgroup), None)
-            if want:
-                places.setdefault((name, want.lastgroup), []).append(int(want[want.lastgroup]))
-    return places
+def positions_by_row(outcomes):
+    """Returns, for each row, the positions of `no memory` in the runs in which one allocation fails, in their order."""
+    positions = {}
+    for (_, refuses_all), got in sorted(outcomes.items()):
+        for name, results in [] if refuses_all else map(row_of, got[1].splitlines()):
+            found = next((it for it in map(NO_MEMORY_RESULT.fullmatch, results) if it and it.lastgroup), None)
+            if found:
+                positions.setdefault((name, found.lastgroup), []).append(int(found[found.lastgroup]))
+    return positions
 
 
-def wrong_places(places):
-    """The rows of which a later growth was refused at an earlier place, or where none says its place."""
-    told = [f"worked examples: {name.decode()}: no memory at {at}" for (name, _), at in places.items() if at != sorted(at)]
-    return told if places else ["worked examples: no row says where memory was refused"]
+def wrong_positions(positions):
+    """Describes the rows in which a later allocation fails at an earlier position."""
+    wrong = [f"worked examples: {name.decode()}: no memory at {at}" for (name, _), at in positions.items() if at != sorted(at)]
+    return wrong if positions else ["worked examples: no row reports a position of `no memory`"]
 
 
-def try_answers(program, room, pool):
-    """Each growth of the worked examples fails in turn, none left out."""
-    trial = Trial("worked examples", lambda *refused: program.run([], b"", *refused), room)
-    rows = {it: rows_of(trial.ample, got) for it, got in trial.refuse(pool, trial.asked, trial.asked).items()}
-    wants = {name for told in rows.values() for name, how in told or [] if how != "none"}
-    places = places_by_row(trial.answers)
-    placed = {name for name, _ in places}
+def try_examples(program, room, pool):
+    """Makes every allocation of the worked examples fail in turn."""
+    trial = Trial("worked examples", lambda *failed: program.run([], b"", *failed), room)
+    rows = {it: kinds_of(trial.ample, got) for it, got in trial.run_all(pool, trial.total, trial.total).items()}
+    allocating = {name for kinds in rows.values() for name, kind in kinds or [] if kind != "same"}
+    positions = positions_by_row(trial.outcomes)
     print(
-        f"worked examples: {len(trial.ample[1].splitlines())} rows, {len(wants)} of which want memory, {len(placed)} say where,"
-        f" {trial.asked} growths"
+        f"worked examples: {len(trial.ample[1].splitlines())} rows, {len(allocating)} allocate, {len({it for it, _ in positions})}"
+        f" report a position, {trial.total} allocations"
     )
-    return [trial.told(*it) for it, told in rows.items() if not are_right(told, it[1], wants)] + wrong_places(places)
+    return [trial.row(*it) for it, kinds in rows.items() if not are_right(kinds, it[1], allocating)] + wrong_positions(positions)
 
 
 def lists_of(moves):
-    """The lists of moves, each with its last line."""
+    """Returns the lists of moves, each with its last line."""
     lists = [b""]
     for line in moves.splitlines(keepends=True):
         lists[-1] += line
@@ -678,92 +719,96 @@ def lists_of(moves):
 
 
 def worlds_left_out(program, lists):
-    """The worlds of the lists with a line left out, by the number of the list and the line."""
+    """Returns the worlds of the lists without one line, by the number of the list and the line."""
     left_out = [
         (number, line, b"".join(lines[:at] + lines[at + 1 :]))
         for number, lines in enumerate(it.splitlines(keepends=True) for it in lists)
         for at, line in enumerate(lines[:-1])
     ]
-    told = program.run([], b"".join(it for _, _, it in left_out))[1].splitlines()
+    printed = program.run([], b"".join(it for _, _, it in left_out))[1].splitlines()
     worlds = {}
-    for (number, line, _), world in zip(left_out, told, strict=True):
+    for (number, line, _), world in zip(left_out, printed, strict=True):
         worlds.setdefault((number, line[:-1]), []).append(world)
     return worlds
 
 
-def is_led_to(left_out, ample, got):
-    """Each list of moves leads to its world, or one of them tells want of memory. Where that was wanted for a line that was read, it is no
-    move, and the world is that of the other lines; where it was wanted for the input or for the list, the program ends there."""
+def are_worlds_right(left_out, ample, got):
+    """Returns whether each list of moves leads to its world, or one of them to `no memory`.
+
+    If the allocation is for a line, that line is not a move, and the world is that of the other
+    lines. If it is for the input or the list, the program ends.
+    """
     worlds, lines = ample[1].splitlines(), got[1].splitlines()
     if got[0] != 0:
         return got[0] == 1 and got[2] == b"Error: Kind(OutOfMemory)\n" and len(lines) < len(worlds) and lines == worlds[: len(lines)]
     dropped = [(at, it.removeprefix(NO_MOVE)) for at, it in enumerate(lines) if it.startswith(NO_MOVE)]
-    told = [it for it in lines if not it.startswith(NO_MOVE)]
-    if got[2] != b"" or got[1][-1:] != b"\n" or len(told) != len(worlds) or len(dropped) > 1:
+    printed = [it for it in lines if not it.startswith(NO_MOVE)]
+    if got[2] != b"" or got[1][-1:] != b"\n" or len(printed) != len(worlds) or len(dropped) > 1:
         return False
-    differing = [(at, it) for at, (world, it) in enumerate(zip(worlds, told)) if it != world]
+    differing = [(at, it) for at, (world, it) in enumerate(zip(worlds, printed)) if it != world]
     if not dropped:
         return not differing or len(differing) == 1 and differing[0][1] == NO_MEMORY
     at = dropped[0][0]
-    return all(it[0] == at for it in differing) and told[at] in left_out.get(dropped[0], ())
+    return all(it[0] == at for it in differing) and printed[at] in left_out.get(dropped[0], ())
 
 
 def try_worlds(program, room, pool):
-    """Each growth of some lists of moves fails in turn, alone: the same lists come twice, so a list is asked for again."""
+    """Makes each allocation of some lists of moves fail alone. The same lists come twice, so that each is repeated."""
     with open(f"{TOP}/crates/mes_double_worlds/stdin", "rb") as it:
         lists = lists_of(it.read()) * 2
-    trial = Trial("lists of moves", lambda *refused: program.run([], b"".join(lists), *refused), room)
+    trial = Trial("lists of moves", lambda *failed: program.run([], b"".join(lists), *failed), room)
     if trial.ample[0] != 0 or trial.ample[2] != b"" or NO_MEMORY in trial.ample[1] or len(trial.ample[1].splitlines()) != len(lists):
-        return [f"{trial.name}: with ample memory: {shortened(trial.ample)}"]
+        return [trial.ample_row()]
     left_out = worlds_left_out(program, lists)
-    answers = trial.refuse(pool, trial.asked, 0)
-    wants = sum(NO_MEMORY in got[1].splitlines() for got in answers.values())
-    print(f"lists of moves: {len(lists)}, {trial.asked} growths, {wants} of which a world wants")
-    return [trial.told(*it) for it, got in answers.items() if not is_led_to(left_out, trial.ample, got)] + ([] if wants else ["no world wants memory"])
+    outcomes = trial.run_all(pool, trial.total, 0)
+    count = sum(NO_MEMORY in got[1].splitlines() for got in outcomes.values())
+    print(f"lists of moves: {len(lists)}, {trial.total} allocations, {count} of them for a world")
+    wrong = [trial.row(*it) for it, got in outcomes.items() if not are_worlds_right(left_out, trial.ample, got)]
+    return wrong + ([] if count else ["lists of moves: no world has `no memory`"])
 
 
-def built_library(room):
-    """The library that refuses growths, built."""
+def build_library(room):
+    """Builds the library that makes allocations fail, and returns its path."""
     library = f"{room}/refuse.so"
     source = f"{os.path.dirname(os.path.abspath(__file__))}/refuse.c"
     subprocess.run(["cc", "-O1", "-shared", "-fPIC", "-fno-builtin", "-o", library, source, "-ldl"], check=True)
     return library
 
 
-def cases_of(room, pool, program, answers=None, worlds=None):
-    """The cases, each as its name and what returns what was wrong."""
+def cases_of(room, pool, program, examples=None, worlds=None):
+    """Yields the name of each case, and the function that returns the rows that are wrong."""
     of = functools.partial
-    for name, words, data in CASES:
-        yield f"{' '.join(words[:2])} of {name}", of(try_case, program, room, pool, name, words, data)
+    for name, args, data in CASES:
+        yield f"{' '.join(args[:2])} of {name}", of(try_case, program, room, pool, name, args, data)
     ports = free_ports()
     for name, data, calls in SERVED:
         yield f"serve of {name}", of(try_served, program, room, pool, ports, name, data, calls)
     for name, data in STREAMS.items():
-        yield f"subscribe to {name}", of(try_shown, program, room, pool, name, data)
-    yield "check of spaces, by bytes", of(try_spaces, program, room, pool)
-    yield "check of a long text, by bytes", of(try_run, program, room, pool)
-    yield "show of lines, by events", of(try_lines, program, room, pool)
-    yield "replay of a log, by entries", of(try_replay, program, room, pool, LOG)
-    yield "replay of a broken log, by entries", of(try_replay, program, room, pool, BROKEN_LOG)
-    yield "check of sizes", of(try_sizes, program, room)
-    if answers:
-        yield "worked examples", of(try_answers, answers, room, pool)
+        yield f"subscribe to {name}", of(try_subscribed, program, room, pool, name, data)
+    yield "check stores no bytes of a record", of(try_spaces, program, room, pool)
+    yield "check reports the byte of a failed allocation", of(try_long_text, program, room, pool)
+    yield "show reports the event of a failed allocation", of(try_lines, program, room, pool)
+    yield "replay reports the entry of a failed allocation", of(try_replay, program, room, pool, LOG)
+    yield "replay reports the entry, with a disconnection", of(try_replay, program, room, pool, DISCONNECTED_LOG)
+    yield "check allocates nothing for the size of a record", of(try_sizes, program, room)
+    if examples:
+        yield "worked examples", of(try_examples, examples, room, pool)
     if worlds:
         yield "lists of moves", of(try_worlds, worlds, room, pool)
 
 
 def main():
-    words = parser(__doc__, "program")
-    words.add_argument("answers", nargs="?")
-    words.add_argument("worlds", nargs="?")
-    arguments = words.parse_args()
+    made = parser(__doc__, 'tests/no_memory.py $(tools/built checked) -k "check of"', "program")
+    made.add_argument("examples", nargs="?", help="the built program of crates/mesosev_examples")
+    made.add_argument("worlds", nargs="?", help="the built program of crates/mes_double_worlds")
+    arguments = made.parse_args()
     tests = Cases(arguments.word)
     if shutil.which("cc") is None:
-        tests.skip("refused growths", "there is no C compiler (cc)")
+        tests.skip("failed allocations", "there is no C compiler (cc)")
         return tests.end()
     with tempfile.TemporaryDirectory() as room, concurrent.futures.ThreadPoolExecutor(os.cpu_count()) as pool:
-        library = built_library(room)
-        programs = [Program(it, library) for it in (arguments.program, arguments.answers, arguments.worlds) if it]
+        library = build_library(room)
+        programs = [Program(it, library) for it in (arguments.program, arguments.examples, arguments.worlds) if it]
         for name, case in cases_of(room, pool, *programs):
             if tests.is_chosen(name):
                 wrong = case()

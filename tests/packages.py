@@ -1,9 +1,9 @@
 #!/usr/bin/env python3
-"""Tests ./install and packaging/build: everything that they install works, and is removed without a trace.
+"""Checks that everything which ./install and packaging/build install works, and is removed completely.
 
-The Debian packages are installed in a fresh Debian, which debootstrap makes. The folder CACHE keeps it for later runs. A test that cannot run
-here prints 'skipped: NAME: why'. -k names the functions that `test_all` calls, as `-k "install choice"`. The last line is
-'N passed, M failed'.
+The Debian packages are installed in a fresh Debian from debootstrap, which later runs take from the
+folder CACHE. A test that cannot run here prints 'skipped: NAME: why'. The names for -k are those of
+the functions that `test_all` calls, with blanks in place of `_`.
 """
 import filecmp
 import glob
@@ -19,7 +19,7 @@ import tempfile
 import zipfile
 import zlib
 
-sys.dont_write_bytecode = True  # Nothing is left beside the scripts.
+sys.dont_write_bytecode = True
 from support import TOP, Cases, parser
 
 PROVED, CHECKED, LIBRARY = "crates/mesosev/out/mesosev", "crates/mesosev/out/checked/mesosev", "crates/mesosev_c/out/libmesosev_c.a"
@@ -38,9 +38,9 @@ LIBRARY_FILES = {
     "lib/python/mesosev.py",
 }
 SUITE, MIRROR = "bookworm", "http://deb.debian.org/debian"
-# Packages of the fresh Debian besides the required ones. With these the packages under test need no download.
+# Packages of the fresh Debian in addition to the required ones. With them the packages under test need no download.
 BASE = ["bash-completion", "gcc", "libc6-dev", "man-db", "pkg-config", "python3"]
-# How long a step of making it may take, in seconds.
+# The time limit of a step that makes the fresh Debian, in seconds.
 LIMIT = 600
 # The environment inside the fresh Debian.
 CLEAN = {"PATH": "/usr/sbin:/usr/bin:/sbin:/bin", "LC_ALL": "C.UTF-8", "HOME": "/root", "DEBIAN_FRONTEND": "noninteractive"}
@@ -97,31 +97,31 @@ class Tests(Cases):
         super().__init__(word)
         self.folder, self.cache = folder, cache
 
-    def run(self, words, data=b"", **environment):
+    def run(self, args, data=b"", **environment):
         """Runs a command, and returns its status and its two outputs."""
         try:
-            ran = subprocess.run(words, input=data, capture_output=True, env=dict(os.environ, **environment))
+            ran = subprocess.run(args, input=data, capture_output=True, env=dict(os.environ, **environment))
         except OSError as error:
             return 127, "", str(error)
         return ran.returncode, ran.stdout.decode(errors="surrogateescape"), ran.stderr.decode(errors="surrogateescape")
 
-    def expect_output(self, name, wanted, words, data=b"", **environment):
-        status, output, error = self.run(words, data, **environment)
-        self.expect(name, (0, wanted), (status, output) if status == 0 else (status, output + error))
+    def expect_output(self, name, expected, args, data=b"", **environment):
+        status, output, error = self.run(args, data, **environment)
+        self.expect(name, (0, expected), (status, output) if status == 0 else (status, output + error), data or None)
 
-    def expect_refused(self, name, wanted, words, target, **environment):
+    def expect_refused(self, name, expected, args, target, **environment):
         """Expects status 1, these texts on standard error, and no change below a folder."""
         before = files_under(target)
-        status, output, error = self.run(words, **environment)
-        self.expect(name, (1, "", []), (status, output, [text for text in wanted if text not in error]))
+        status, output, error = self.run(args, **environment)
+        self.expect(name, (1, "", []), (status, output, [text for text in expected if text not in error]))
         self.expect(f"{name}: nothing written", before, files_under(target))
 
-    def expect_usage(self, command, *mistakes):
-        """Expects --help to print the usage, and each mistake to print it on standard error."""
+    def expect_usage(self, command, *usage_errors):
+        """Expects --help to print the usage, and each usage error to print it on standard error."""
         status, usage, error = self.run([command, "--help"])
         self.expect(f"{command} --help", (0, True, ""), (status, usage.startswith("usage: "), error))
-        for words in mistakes:
-            self.expect(f"{command} {words}", (2, "", usage), self.run([command, *words]))
+        for args in usage_errors:
+            self.expect(f"{command} {args}", (2, "", usage), self.run([command, *args]))
 
     def program(self, name, path):
         """Checks that a program reads the example."""
@@ -150,8 +150,8 @@ class Tests(Cases):
         status, flags, error = self.run(["pkg-config", "--cflags", "--libs", "mesosev"], **paths)
         self.expect(f"{name}: pkg-config", (0, ""), (status, error))
         reader = f"{self.folder}/reader"
-        words = ["cc", f"{TOP}/examples/reader.c", *shlex.split(flags), "-o", reader]
-        self.expect_output(f"{name}: compiling reader.c", "", words)
+        args = ["cc", f"{TOP}/examples/reader.c", *shlex.split(flags), "-o", reader]
+        self.expect_output(f"{name}: compiling reader.c", "", args)
         _, texts, _ = self.run([reader], STREAM, **paths)
         self.expect(f"{name}: reader.c", TYPES, types_of_lines(texts))
 
@@ -170,10 +170,10 @@ def test_install_refusals(tests, copy):
     """Runs ./install without a build, and for a prefix that it cannot write."""
     target = f"{tests.folder}/refused"
     os.mkdir(target)
-    words = [f"{copy}/install", "--prefix", f"{target}/prefix é"]
-    tests.expect_refused("no build", ["./mesosev --version", "./prove "], words, target)
+    args = [f"{copy}/install", "--prefix", f"{target}/prefix é"]
+    tests.expect_refused("no build", ["./mesosev --version", "./prove "], args, target)
     plant(copy, PROVED, "proved")
-    tests.expect_refused("no library", ["./prove mesosev_c"], [*words, "--library"], target)
+    tests.expect_refused("no library", ["./prove mesosev_c"], [*args, "--library"], target)
     write(f"{target}/file", "")
     os.makedirs(f"{target}/taken/share/man/man1/mesosev.1")
     tests.expect_refused("a file as prefix", ["not a folder"], [f"{copy}/install", "--prefix", f"{target}/file"], target)
@@ -221,46 +221,46 @@ def test_install_choice(tests, copy):
 def test_install(tests):
     """Installs the builds of this checkout under a prefix with spaces and non-ASCII letters."""
     prefix = f"{tests.folder}/päth with späces"
-    words = [f"{TOP}/install", "--prefix", prefix]
+    args = [f"{TOP}/install", "--prefix", prefix]
     kind = "proved" if built(TOP, "proved") else "checked"
     if not built(TOP, kind):
         tests.skip("installing the program", "there is no build of it")
         return
-    tests.expect("installing the program", (0, True), ((ran := tests.run(words))[0], f"the {kind} build" in ran[2]))
+    tests.expect("installing the program", (0, True), ((ran := tests.run(args))[0], f"the {kind} build" in ran[2]))
     tests.expect("the program's files", PROGRAM_FILES, files_under(prefix))
     tests.program("./install", f"{prefix}/bin/mesosev")
     if built(TOP, "library"):
-        tests.expect("installing the library", 0, tests.run([*words, "--library"])[0])
+        tests.expect("installing the library", 0, tests.run([*args, "--library"])[0])
         tests.expect("all files", PROGRAM_FILES | LIBRARY_FILES, files_under(prefix))
         tests.tree("./install --library", prefix)
         test_destdir(tests)
     else:
         tests.skip("installing the library", "there is no proved build of it")
-    tests.expect("uninstalling", 0, tests.run([*words, "--uninstall"])[0])
+    tests.expect("uninstalling", 0, tests.run([*args, "--uninstall"])[0])
     tests.expect("uninstalled", set(), files_under(prefix))
 
 
 def test_destdir(tests):
     """Checks that DESTDIR is put before each path that is written, and into no file."""
     staged, prefix = f"{tests.folder}/staged é", f"{tests.folder}/never written"
-    words = [f"{TOP}/install", "--prefix", prefix, "--library"]
-    tests.expect("installing with DESTDIR", 0, tests.run(words, DESTDIR=staged)[0])
+    args = [f"{TOP}/install", "--prefix", prefix, "--library"]
+    tests.expect("installing with DESTDIR", 0, tests.run(args, DESTDIR=staged)[0])
     tests.expect("files with DESTDIR", PROGRAM_FILES | LIBRARY_FILES, files_under(staged + prefix))
     tests.expect("DESTDIR in no file", [], [path for path in files_under(staged) if staged.encode() in read(f"{staged}/{path}")])
     tests.expect("DESTDIR alone is written", False, os.path.exists(prefix))
-    tests.expect("uninstalling with DESTDIR", 0, tests.run([*words, "--uninstall"], DESTDIR=staged)[0])
+    tests.expect("uninstalling with DESTDIR", 0, tests.run([*args, "--uninstall"], DESTDIR=staged)[0])
     tests.expect("uninstalled with DESTDIR", set(), files_under(staged + prefix))
 
 
 def test_build_refusals(tests, copy):
     """Runs packaging/build without proved builds, without a tool, and with usage errors."""
     target = f"{tests.folder}/no packages"
-    words = [f"{copy}/packaging/build", "--out", target]
+    args = [f"{copy}/packaging/build", "--out", target]
     shutil.rmtree(f"{copy}/crates/mesosev/out", ignore_errors=True)
     plant(copy, CHECKED, "checked")
-    tests.expect_refused("packages of a checked build", ["(./prove)", "(./prove mesosev_c)"], words, target)
+    tests.expect_refused("packages of a checked build", ["(./prove)", "(./prove mesosev_c)"], args, target)
     plant(copy, PROVED, "proved")
-    tests.expect_refused("packages without the library", ["(./prove mesosev_c)"], words, target)
+    tests.expect_refused("packages without the library", ["(./prove mesosev_c)"], args, target)
     write(f"{copy}/{LIBRARY}", "an archive")
     # Every tool but debhelper.
     tools = f"{tests.folder}/tools"
@@ -269,7 +269,7 @@ def test_build_refusals(tests, copy):
         name = os.path.basename(path)
         if not os.path.lexists(f"{tools}/{name}") and name not in ("dh", "dh_python3"):
             os.symlink(path, f"{tools}/{name}")
-    tests.expect_refused("packages without debhelper", ["packaging/build: needs debhelper", "apt-get install "], words, target, PATH=tools)
+    tests.expect_refused("packages without debhelper", ["packaging/build: needs debhelper", "apt-get install "], args, target, PATH=tools)
     tests.expect_usage(f"{copy}/packaging/build", ["--bogus"], ["--out"], ["--out", ""], ["--out", "x", "y"])
 
 
@@ -281,8 +281,8 @@ def build_packages(tests):
     out, again = f"{tests.folder}/packages é", f"{tests.folder}/again"
     # Neither the umask nor the time zone may reach the packages.
     for folder, umask, zone in ((out, "022", "UTC"), (again, "077", "Asia/Tokyo")):
-        words = ["sh", "-c", f'umask {umask} && exec "$0" "$@"', f"{TOP}/packaging/build", "--out", folder]
-        status, output, error = tests.run(words, TZ=zone)
+        args = ["sh", "-c", f'umask {umask} && exec "$0" "$@"', f"{TOP}/packaging/build", "--out", folder]
+        status, output, error = tests.run(args, TZ=zone)
         if ": needs " in error:
             tests.skip("packages", error.strip())
             return None
@@ -302,7 +302,7 @@ def test_lintian(tests, debs):
         # It leaves files in the folder for temporary files.
         tests.expect("lintian", "", tests.run(["lintian", "--tag-display-limit", "0", *debs], TMPDIR=tests.folder)[1])
     else:
-        tests.skip("lintian", "it is not there")
+        tests.skip("lintian", "it is not installed")
 
 
 def test_archive(tests, out):
@@ -331,7 +331,7 @@ def test_wheel(tests, wheel):
     tests.expect("installing the wheel", 0, tests.run([*pip, "install", "--no-index", wheel])[0])
     tests.python("the wheel", f"{venv}/bin/python")
     tests.expect("removing the wheel", 0, tests.run([*pip, "uninstall", "--yes", "mesosev"])[0])
-    tests.expect("what is left of the wheel", [], [path for path in files_under(venv) if "mesosev" in path])
+    tests.expect("files of the wheel that are left", [], [path for path in files_under(venv) if "mesosev" in path])
 
 
 class Debian:
@@ -340,22 +340,22 @@ class Debian:
     def __init__(self, tests, root):
         self.tests, self.root = tests, root
 
-    def words(self, *words):
+    def command(self, *args):
         """Returns the command that runs a command in this Debian. Its mounts and processes end with it."""
         script = 'mount -t proc proc "$0/proc" && exec chroot "$0" "$@"'
-        return ["unshare", "--mount", "--pid", "--fork", "--kill-child", "sh", "-c", script, self.root, *words]
+        return ["unshare", "--mount", "--pid", "--fork", "--kill-child", "sh", "-c", script, self.root, *args]
 
-    def run(self, *words, data=b""):
-        ran = subprocess.run(self.words(*words), input=data, stdout=subprocess.PIPE, stderr=subprocess.STDOUT, env=CLEAN)
+    def run(self, *args, data=b""):
+        ran = subprocess.run(self.command(*args), input=data, stdout=subprocess.PIPE, stderr=subprocess.STDOUT, env=CLEAN)
         return ran.returncode, ran.stdout.decode()
 
-    def expect(self, name, wanted, *words, data=b""):
-        self.tests.expect(f"Debian: {name}", (0, wanted), self.run(*words, data=data))
+    def expect(self, name, expected, *args, data=b""):
+        self.tests.expect(f"Debian: {name}", (0, expected), self.run(*args, data=data))
 
-    def apt_get(self, *words):
+    def apt_get(self, *args):
         """Runs apt-get, and returns whether it succeeded."""
-        status, output = self.run("apt-get", "--yes", "--no-install-recommends", *words)
-        self.tests.expect(f"Debian: apt-get {words[0]}", 0, status)
+        status, output = self.run("apt-get", "--yes", "--no-install-recommends", *args)
+        self.tests.expect(f"Debian: apt-get {args[0]}", 0, status)
         if status:
             print(output)
         return status == 0
@@ -380,17 +380,17 @@ def debian_image(tests):
         debian = Debian(tests, root)
         steps = [
             ["unshare", "--mount", "debootstrap", "--variant=minbase", SUITE, root, MIRROR],
-            debian.words("apt-get", "install", "--yes", "--no-install-recommends", *BASE),
-            debian.words("apt-get", "clean"),
+            debian.command("apt-get", "install", "--yes", "--no-install-recommends", *BASE),
+            debian.command("apt-get", "clean"),
             ["tar", "--create", "--file", f"{image}.new", "--directory", root, "."],
             ["mv", f"{image}.new", image],
         ]
-        for words in steps if not os.path.exists(image) else []:
-            # A mirror that does not answer must not stop the other tests.
-            limited = ["timeout", "--kill-after=10", str(LIMIT), *words]
+        for args in steps if not os.path.exists(image) else []:
+            # A mirror that does not respond must not stop the other tests.
+            limited = ["timeout", "--kill-after=10", str(LIMIT), *args]
             ran = subprocess.run(limited, stdout=subprocess.PIPE, stderr=subprocess.STDOUT, stdin=subprocess.DEVNULL, env=CLEAN)
             if ran.returncode:
-                tests.skip("packages in a fresh Debian", f"{words[:4]}: status {ran.returncode}: {ran.stdout.decode().strip()[-200:]}")
+                tests.skip("packages in a fresh Debian", f"{args[:4]}: status {ran.returncode}: {ran.stdout.decode().strip()[-200:]}")
                 return None
     return image
 
@@ -402,10 +402,10 @@ def test_debian(tests, debs):
     with tempfile.TemporaryDirectory(dir=tests.cache) as root:
         debian = Debian(tests, root)
         unpacked = subprocess.run(["tar", "--extract", "--file", image, "--directory", root], capture_output=True)
-        status, said = debian.run("true") if unpacked.returncode == 0 else (unpacked.returncode, unpacked.stderr.decode())
+        status, output = debian.run("true") if unpacked.returncode == 0 else (unpacked.returncode, unpacked.stderr.decode())
         if status:
-            # A container may forbid devices, mounts or chroot, also to root.
-            tests.skip("packages in a fresh Debian", said.strip()[-200:])
+            # A container can forbid devices, mounts or chroot, even to root.
+            tests.skip("packages in a fresh Debian", output.strip()[-200:])
             return
         before = debian.state()
         for deb in debs:
@@ -456,12 +456,12 @@ def test_packages(tests):
 def test_all(tests):
     copy = f"{tests.folder}/cöpy of it"
     shutil.copytree(TOP, copy, symlinks=True, ignore=shutil.ignore_patterns("out", ".git", "__pycache__"))
-    tests.run_chosen(test_install_refusals, test_full_disk, test_install_choice, test_build_refusals, given=[tests, copy])
-    tests.run_chosen(test_install, test_packages, given=[tests])
+    tests.run_chosen(test_install_refusals, test_full_disk, test_install_choice, test_build_refusals, arguments=[tests, copy])
+    tests.run_chosen(test_install, test_packages, arguments=[tests])
 
 
 def main():
-    arguments = parser(__doc__, cache="/var/tmp/mesosev-packages").parse_args()
+    arguments = parser(__doc__, 'tests/packages.py -k "install choice"', cache="/var/tmp/mesosev-packages").parse_args()
     # These would replace the files under test.
     for name in ("DESTDIR", "MESOSEV_LIBRARY", "PYTHONPATH"):
         os.environ.pop(name, None)

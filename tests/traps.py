@@ -1,8 +1,8 @@
 #!/usr/bin/env python3
-"""Builds a small program as tools/checked builds mesosev, and has a check of each kind fail: it must end by a trap (SIGILL).
+"""Builds a small program in the same way as tools/checked, and makes each kind of check fail.
 
-Without the toolchain it is skipped, with a line that says so. A case is a kind of check, as `-k shift`. The last line is
-'N passed, M failed'.
+The program must then end by a trap (SIGILL). A case is a kind of check. Without the toolchain of
+Rattle all cases are skipped.
 """
 import importlib.machinery
 import importlib.util
@@ -12,11 +12,11 @@ import subprocess
 import sys
 import tempfile
 
-sys.dont_write_bytecode = True  # Nothing is left beside the scripts.
+sys.dont_write_bytecode = True
 from support import TOP, Cases, parser
 
 KINDS = "index slice sum difference product cast divisor remainder shift unwrap unreachable".split()
-# Five letters after the kind make its check fail, none do not.
+# The text after the kind of a check. With five letters the check fails, with none it succeeds.
 GOOD, BAD = "", "12345"
 SOURCE = """\
 //! Makes the check of a kind fail.
@@ -105,7 +105,7 @@ fn main(rt: HostRuntime) -> io::Result<()> {
 
 
 def builder():
-    """tools/checked as a module."""
+    """Returns tools/checked as a module."""
     sys.path.insert(0, f"{TOP}/tools")
     loader = importlib.machinery.SourceFileLoader("checked", f"{TOP}/tools/checked")
     module = importlib.util.module_from_spec(importlib.util.spec_from_loader("checked", loader))
@@ -114,7 +114,7 @@ def builder():
 
 
 def build(folder):
-    """The path of the program."""
+    """Builds the program in a folder, and returns its path."""
     source = os.path.join(folder, "top", "crates", "traps", "src")
     os.makedirs(source)
     with open(f"{source}/main.rt", "w", encoding="utf-8") as file:
@@ -127,17 +127,18 @@ def build(folder):
 
 
 def main():
-    tests = Cases(parser(__doc__).parse_args().word)
+    tests = Cases(parser(__doc__, "tests/traps.py -k shift").parse_args().word)
     if builder().toolchain.missing():
         tests.skip("traps", builder().toolchain.missing())
         return tests.end()
     with tempfile.TemporaryDirectory(prefix="mesosev-traps-") as folder:
         program = build(folder)
         for kind in filter(tests.is_chosen, KINDS):
-            for text in (GOOD, BAD):
-                ran = subprocess.run([program], input=f"{kind} {text}\n", capture_output=True, text=True, check=False)
-                good = ran.returncode == -signal.SIGILL if text == BAD else ran.returncode == 0 and ran.stdout.strip().isdigit()
-                tests.count(f"{kind} {text}", good, f": status {ran.returncode}, {ran.stdout!r}, {ran.stderr!r}")
+            for text, expected in ((GOOD, (0, True)), (BAD, (-signal.SIGILL, False))):
+                line = f"{kind} {text}\n"
+                ran = subprocess.run([program], input=line, capture_output=True, text=True, check=False)
+                outcome = ran.returncode, ran.stdout.strip().isdigit()
+                tests.expect(f"{kind}: status and whether a number is printed", expected, outcome, line)
     return tests.end()
 
 

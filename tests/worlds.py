@@ -1,11 +1,15 @@
 #!/usr/bin/env python3
-"""Compares the worlds that mes_double_worlds prints with a model of a session and a test master, and looks at the laws that hold of them.
+"""Compares the worlds that mes_double_worlds prints with a model of a session and a test master, and checks their laws.
 
-PROGRAM is mes_double_worlds as it was built: it reads moves as lines (docs/FORMAT.md), and is run once. CRATE is its folder: `rt try` compiles it
-with checks and without a proof, and runs it on some lists at a time. Each list of up to four of thirteen moves is made after each of three
-beginnings, or with --sample N every N-th of them. Then come random lists of up to 40 moves. The model is written after the description of the
-two ends and shares nothing with the program: its session keeps a history, and looks up there what is in hand and owed. Each list is one case,
-and its name is its moves. The last line is 'N passed, M failed'.
+A world is a session, a test master, and the messages on the way between them. PROGRAM is the built
+program of crates/mes_double_worlds, which reads moves as lines (docs/FORMAT.md); it is run once. For
+--try CRATE, its folder, `rt try` compiles the program with checks and without a proof, and runs it
+on some lists at a time.
+
+The lists are each list of up to four of thirteen moves after each of three beginnings (with
+--sample N every N-th of them), then --random lists of up to 40 random moves. The model shares no
+code with the program: its session stores the history, and derives the outstanding offers and the
+unacknowledged updates from it. A case is a list, and its name is its moves.
 """
 import base64
 import copy
@@ -19,13 +23,13 @@ import sys
 import tempfile
 from collections import namedtuple
 
-sys.dont_write_bytecode = True  # Nothing is left beside the scripts.
+sys.dont_write_bytecode = True
 from support import Cases, parser
 
 FRAMEWORK = "F1"
 STREAMS = ("1", "2")
 DEPTH = 4
-# `rt try` takes 1 MiB of output: some 200 bytes a list.
+# `rt try` accepts 1 MiB of output: some 200 bytes a list.
 LISTS_A_CASE = 3_000
 
 # A resource is its name, its type, and its value: thousandths, ranges with both ends, or items.
@@ -34,10 +38,11 @@ Task = namedtuple("Task", "id agent resources")
 Key = namedtuple("Key", "agent task uuid")
 Status = namedtuple("Status", "task agent uuid state", defaults=["TASK_RUNNING"])
 Event = namedtuple("Event", "kind body", defaults=[None])
-# The offers by their ids; the key of an ACKNOWLEDGE; the ids of the tasks of a RECONCILE; the body of calls that neither end looks into.
+# The ids of the offers; the key of an ACKNOWLEDGE; the ids of the tasks of a RECONCILE; the body of other calls,
+# which neither end reads.
 Call = namedtuple("Call", "kind framework offers tasks key named other", defaults=[FRAMEWORK, (), (), None, (), None])
 Sent = namedtuple("Sent", "call stream")
-Answer = namedtuple("Answer", "status events took ran master")
+Response = namedtuple("Response", "status events took ran master")
 Arrival = namedtuple("Arrival", "index call status took ran")
 
 
@@ -45,7 +50,7 @@ def has_two(items):
     return len(set(items)) < len(items)
 
 
-# ---- what the moves are written as
+# ---- the lines of the moves
 
 
 def value(text):
@@ -90,7 +95,7 @@ def status_tree(status):
 
 
 def call_body(call):
-    """The body of a call, or none."""
+    """Returns the body of a call, or None."""
     ids = {"offer_ids": [value(it) for it in call.offers]} if call.offers else {}
     if call.kind == "ACCEPT":
         launch = {"type": "LAUNCH", "launch": {"task_infos": [task_tree(it) for it in call.tasks]}}
@@ -115,7 +120,7 @@ def call_text(call):
 
 
 def line_of(kind, body):
-    """The line that a move is written as."""
+    """Returns the line of a move."""
     if kind == "offer":
         return "offer " + json.dumps({"type": "OFFERS", "offers": {"offers": [offer_tree(it) for it in body[0]]}})
     if kind == "update":
@@ -125,7 +130,7 @@ def line_of(kind, body):
     return " ".join([kind, *map(str, body)])
 
 
-# A move is the name of the method of World that makes it, what that is given, and its line.
+# A move: the name of the method of World that makes it, the arguments of that, and its line.
 Move = namedtuple("Move", "kind body line")
 
 
@@ -140,11 +145,11 @@ def wish(*call, **fields):
 HEAR = move("hear")
 
 
-# ---- what fits
+# ---- whether tasks fit
 
 
 def points(resources, name, kind):
-    """The points, or the items, of these resources under that name and of that type."""
+    """Returns the points, or the items, of the resources of this name and type."""
     found = set()
     for _, _, worth in (it for it in resources if it[:2] == (name, kind)):
         if kind == "SET":
@@ -160,7 +165,7 @@ def amount(resources, name):
 
 
 def fits(offers, tasks):
-    """Whether the tasks need, of each resource, no more than the offers have, and no point or item twice."""
+    """Returns whether the tasks need at most the resources of the offers, and no point or item twice."""
     given = [it for offer in offers for it in offer.resources]
     for name, kind in {it[:2] for task in tasks for it in task.resources}:
         if kind == "SCALAR":
@@ -180,81 +185,81 @@ def fits(offers, tasks):
 
 
 def key_of(status):
-    """The key under which a status owes an acknowledgement, or none."""
+    """Returns the key of a status that requires an acknowledgement, or None."""
     return Key(status.agent, status.task, status.uuid) if status.uuid and status.agent is not None else None
 
 
-def takes_out(entry, name):
-    """Whether an entry of a history takes an offer of that name out of the hand."""
-    word, it = entry
-    if word == "said":
+def removes_offer(entry, name):
+    """Returns whether an entry of a history ends that the offer of this id is outstanding."""
+    kind, it = entry
+    if kind == "sent":
         return it.kind in ("ACCEPT", "DECLINE") and name in it.offers
-    return word == "broken" or it.kind == "SUBSCRIBED" or it == Event("RESCIND", name)
+    return kind == "disconnected" or it.kind == "SUBSCRIBED" or it == Event("RESCIND", name)
 
 
 class Session:
-    """What a session was told and said: each entry is a word and an event, a call or nothing."""
+    """The history of a session. An entry is `received` and an event, `sent` and a call, or `disconnected`."""
 
     def __init__(self, history=()):
         self.history = history
 
-    def further(self, word, it=None):
-        return Session((*self.history, (word, it)))
+    def with_entry(self, kind, it=None):
+        return Session((*self.history, (kind, it)))
 
-    def heard(self, kind):
-        """The places and bodies of the events of that kind."""
-        return [(at, it.body) for at, (word, it) in enumerate(self.history) if word == "heard" and it.kind == kind]
+    def received(self, kind):
+        """Returns the indices and bodies of the events of this type."""
+        return [(at, it.body) for at, (what, it) in enumerate(self.history) if what == "received" and it.kind == kind]
 
     def framework(self):
-        every = self.heard("SUBSCRIBED")
+        every = self.received("SUBSCRIBED")
         return every[-1][1] if every else None
 
     def is_connected(self):
-        subscribed = [at for at, _ in self.heard("SUBSCRIBED")]
-        return bool(subscribed) and all(word != "broken" for word, _ in self.history[subscribed[-1] :])
+        subscribed = [at for at, _ in self.received("SUBSCRIBED")]
+        return bool(subscribed) and all(kind != "disconnected" for kind, _ in self.history[subscribed[-1] :])
 
-    def hand(self):
-        """An offer is in hand where it came and nothing behind that takes it out: with its last value, at the place where it first came
-        behind the last that took it out."""
-        came = [(at, offer) for at, offers in self.heard("OFFERS") for offer in offers]
-        placed = []
-        for name in {offer.id for _, offer in came}:
-            out = max((at for at, entry in enumerate(self.history) if takes_out(entry, name)), default=-1)
-            stays = [number for number, (at, offer) in enumerate(came) if offer.id == name and at > out]
+    def outstanding(self):
+        """Returns the offers that no later entry removes, each with its last value, in the order in which they first
+        came after their last removal."""
+        offers = [(at, offer) for at, offers in self.received("OFFERS") for offer in offers]
+        found = []
+        for name in {offer.id for _, offer in offers}:
+            removal = max((at for at, entry in enumerate(self.history) if removes_offer(entry, name)), default=-1)
+            stays = [number for number, (at, offer) in enumerate(offers) if offer.id == name and at > removal]
             if stays:
-                placed.append((stays[0], came[stays[-1]][1]))
-        return tuple(offer for _, offer in sorted(placed))
+                found.append((stays[0], offers[stays[-1]][1]))
+        return tuple(offer for _, offer in sorted(found))
 
-    def owed(self):
-        """A key is owed where an update owes it and no ACKNOWLEDGE of it stands behind that."""
-        came = [(at, key_of(status)) for at, status in self.heard("UPDATE") if key_of(status)]
-        placed = []
-        for key in {key for _, key in came}:
-            said = [at for at, (word, it) in enumerate(self.history) if word == "said" and it.kind == "ACKNOWLEDGE" and it.key == key]
-            stays = [at for at, it in came if it == key and at > max(said, default=-1)]
+    def unacknowledged(self):
+        """Returns the keys of updates that no later ACKNOWLEDGE has."""
+        updates = [(at, key_of(status)) for at, status in self.received("UPDATE") if key_of(status)]
+        found = []
+        for key in {key for _, key in updates}:
+            sent = [at for at, (kind, it) in enumerate(self.history) if kind == "sent" and it.kind == "ACKNOWLEDGE" and it.key == key]
+            stays = [at for at, it in updates if it == key and at > max(sent, default=-1)]
             if stays:
-                placed.append((stays[0], key))
-        return tuple(key for _, key in sorted(placed))
+                found.append((stays[0], key))
+        return tuple(key for _, key in sorted(found))
 
     def refuses(self, call):
-        """The first reason to refuse a call, or none."""
+        """Returns the first reason to reject a call, or None."""
         if call.kind == "SUBSCRIBE":
             return "S1" if None not in (self.framework(), call.framework) and call.framework != self.framework() else None
         if not self.is_connected() or call.framework != self.framework():
             return "S1"
         if call.kind in ("ACCEPT", "DECLINE"):
             return self.refuses_offers(call)
-        return "S7" if call.kind == "ACKNOWLEDGE" and call.key not in self.owed() else None
+        return "S7" if call.kind == "ACKNOWLEDGE" and call.key not in self.unacknowledged() else None
 
     def refuses_offers(self, call):
-        hand = {it.id: it for it in self.hand()}
+        outstanding = {it.id: it for it in self.outstanding()}
         if has_two(call.offers) or has_two([it.id for it in call.tasks]):
             return "S2"
-        if any(name not in hand for name in call.offers):
+        if any(name not in outstanding for name in call.offers):
             return "S3"
         if call.kind == "DECLINE":
             return None
-        offers = [hand[name] for name in call.offers]
+        offers = [outstanding[name] for name in call.offers]
         agents = {it.agent for it in offers}
         if len(agents) > 1:
             return "S4"
@@ -264,7 +269,7 @@ class Session:
 
 
 class Master:
-    """What a test master holds. Its calls answer a new one; where one of its own accord is refused they answer none."""
+    """The state of a test master. A method returns the next state; None if the master refuses to send."""
 
     def __init__(self):
         self.streams, self.stream, self.down = STREAMS, None, False
@@ -302,12 +307,12 @@ class Master:
     def handle(self, call, stream):
         foreign = call.framework not in (None, FRAMEWORK)
         if self.down or foreign or (not self.streams if call.kind == "SUBSCRIBE" else self.stream is None):
-            return Answer(403, (), (), (), self)
+            return Response(403, (), (), (), self)
         if call.kind == "SUBSCRIBE":
             later = self.changed(streams=self.streams[1:], stream=self.streams[0], outstanding=())
-            return Answer(200, (Event("SUBSCRIBED", FRAMEWORK),), (), (), later)
+            return Response(200, (Event("SUBSCRIBED", FRAMEWORK),), (), (), later)
         if stream != self.stream:
-            return Answer(400, (), (), (), self)
+            return Response(400, (), (), (), self)
         return self.carry_out(call)
 
     def carry_out(self, call):
@@ -324,28 +329,28 @@ class Master:
             events = tuple(Event("UPDATE", last[it]._replace(uuid=None)) for it in call.named or last if it in last)
         elif call.kind == "TEARDOWN":
             later = self.changed(stream=None, down=True, outstanding=())
-        return Answer(202, events, took, ran, later)
+        return Response(202, events, took, ran, later)
 
 
 # ---- the world
 
 
 class World:
-    """Both ends, what is on the way between them, and what was heard and what arrived."""
+    """Both ends, the messages between them, and the events and calls that have arrived."""
 
     def __init__(self):
         self.master, self.session = Master(), Session()
         self.waiting, self.sent, self.skipped = (), (), 0
-        self.heard, self.arrivals = (), ()
+        self.events, self.arrivals = (), ()
 
     def made(self, move):
-        """The world behind a move."""
+        """Returns the world after a move."""
         later = copy.copy(self)
         if not getattr(later, move.kind)(*move.body):
             later.skipped += 1
         return later
 
-    # Each of these changes the world, or answers that it changed nothing that counts.
+    # Each move returns whether it was made. The program counts the others as skipped.
 
     def send(self, sent):
         if sent is None:
@@ -369,15 +374,15 @@ class World:
     def hear(self):
         if not self.waiting:
             return False
-        self.session = self.session.further("heard", self.waiting[0])
-        self.heard += self.waiting[:1]
+        self.session = self.session.with_entry("received", self.waiting[0])
+        self.events += self.waiting[:1]
         self.waiting = self.waiting[1:]
         return True
 
     def wish(self, call):
         if self.master.stream is None or self.session.refuses(call):
             return False
-        self.session = self.session.further("said", call)
+        self.session = self.session.with_entry("sent", call)
         self.sent += (Sent(call, self.master.stream),)
         return True
 
@@ -391,18 +396,18 @@ class World:
         return status in (200, 202)
 
     def resubscribe(self):
-        answer = self.master.handle(Call("SUBSCRIBE", self.session.framework()), None)
-        if answer.status != 200:
+        response = self.master.handle(Call("SUBSCRIBE", self.session.framework()), None)
+        if response.status != 200:
             return False
-        self.master, self.waiting = answer.master, answer.events
-        self.session = self.session.further("broken")
+        self.master, self.waiting = response.master, response.events
+        self.session = self.session.with_entry("disconnected")
         return True
 
     def end(self):
-        """The line that the program prints of this world."""
+        """Returns the line that the program prints for this world."""
 
-        def part(word, names):
-            return " ".join([word, *names])
+        def part(name, items):
+            return " ".join([name, *items])
 
         master, session = self.master, self.session
         return " | ".join(
@@ -412,8 +417,8 @@ class World:
                 part("launched", master.launched),
                 part("acked", [it.task for it in master.acked]),
                 f"framework {session.framework() or '-'} {'on' if session.is_connected() else 'off'}",
-                part("hand", [it.id for it in session.hand()]),
-                part("owed", [it.task for it in session.owed()]),
+                part("hand", [it.id for it in session.outstanding()]),
+                part("owed", [it.task for it in session.unacknowledged()]),
                 part("waiting", [it.kind for it in self.waiting]),
                 f"sent {len(self.sent)}",
                 f"skipped {self.skipped}",
@@ -421,12 +426,12 @@ class World:
         )
 
     def repeats(self):
-        """The moves by which each ACCEPT, DECLINE and ACKNOWLEDGE that was answered 202 arrives again."""
+        """Returns moves that deliver each ACCEPT, DECLINE and ACKNOWLEDGE of status 202 again."""
         again = {it.index for it in self.arrivals if it.status == 202 and it.call.kind in ("ACCEPT", "DECLINE", "ACKNOWLEDGE")}
         return [move("arrive", index) for index in sorted(again)]
 
     def under_way(self):
-        """The names of the offers in an ACCEPT or DECLINE that was sent on the current stream and has not arrived."""
+        """Returns the ids of the offers in each ACCEPT or DECLINE that was sent on the current stream and has not arrived."""
         arrived = {it.index for it in self.arrivals}
         current = [it.call for at, it in enumerate(self.sent) if at not in arrived and it.stream == self.master.stream]
         return {name for call in current if call.kind in ("ACCEPT", "DECLINE") for name in call.offers}
@@ -436,27 +441,30 @@ class World:
 
 
 def parts_of(line):
-    """The names behind each word of a printed world."""
-    return {word: names for word, *names in (part.split(" ") for part in line.split(" | "))}
+    """Returns the items of each part of a printed world, by the name of the part."""
+    return {name: items for name, *items in (part.split(" ") for part in line.split(" | "))}
 
 
 def broken_law(world, line, later):
-    """The first law that does not hold, or none: of the line of a list, and of the line once all that waits was heard and each call that
-    may come again has come again. What was heard, sent and arrived is the model's."""
+    """Returns the first law that is broken, or None.
+
+    `line` is the printed world of a list. `later` is the world once all waiting events were received
+    and each call that may be repeated has arrived again. The events and calls are the model's.
+    """
     now, then = parts_of(line), parts_of(later)
     took = [it.id for arrival in world.arrivals for it in arrival.took]
     ran = [it.id for arrival in world.arrivals for it in arrival.ran]
-    heard = [key_of(it.body) for it in world.heard if it.kind == "UPDATE"]
+    updates = [key_of(it.body) for it in world.events if it.kind == "UPDATE"]
     stream = now["stream"] != ["-"]
     under_way = world.under_way()
     laws = {
-        "each acknowledged update was heard": set(now["acked"]) <= {key.task for key in heard if key} and set(world.master.acked) <= set(heard),
+        "each acknowledged update was received": set(now["acked"]) <= {key.task for key in updates if key} and set(world.master.acked) <= set(updates),
         "no task is launched twice": not has_two(now["launched"]),
-        "what was launched was launched by a call": now["launched"] == ran,
-        "no offer is taken twice": not has_two(took) and not set(took) & set(now["outstanding"]),
-        "what is launched fits": all(fits(it.took, it.ran) for it in world.arrivals),
-        "a call that comes again changes nothing": all(now[word] == then[word] for word in ("outstanding", "launched", "acked")),
-        "hand and outstanding agree once all is heard": not stream or then["hand"] == [it for it in now["outstanding"] if it not in under_way],
+        "each launched task is of a call": now["launched"] == ran,
+        "no offer is used twice": not has_two(took) and not set(took) & set(now["outstanding"]),
+        "the launched tasks fit their offers": all(fits(it.took, it.ran) for it in world.arrivals),
+        "a repeated call changes nothing": all(now[name] == then[name] for name in ("outstanding", "launched", "acked")),
+        "hand and outstanding agree once all events were received": not stream or then["hand"] == [it for it in now["outstanding"] if it not in under_way],
         "hand and outstanding agree": not stream or bool(now["waiting"] or under_way) or now["hand"] == now["outstanding"],
     }
     return next((law for law, holds in laws.items() if not holds), None)
@@ -512,12 +520,12 @@ MORE = [
     wish("SUBSCRIBE", "F2", other={"framework_info": {"user": "root", "name": "n"}}),
 ]
 
-# The moves of random lists, the more telling ones more than once.
+# The moves of random lists. Those that change more are listed more than once.
 USUAL = 2 * [it for it in MOVES if it is not TEARDOWN] + MORE + 12 * [HEAR] + 5 * [move("arrive", index) for index in range(4)]
 
 
 def led_to(moves):
-    """The world that the moves lead to."""
+    """Returns the world to which the moves lead."""
     world = World()
     for it in moves:
         world = world.made(it)
@@ -525,7 +533,7 @@ def led_to(moves):
 
 
 def grown(world, moves, depth):
-    """Each list of up to so many moves behind these, and its world."""
+    """Yields each list of up to `depth` moves after `moves`, and its world."""
     yield moves, world
     if depth > 0:
         for it in MOVES:
@@ -533,7 +541,7 @@ def grown(world, moves, depth):
 
 
 def at_random(seed):
-    """A random list and its world. A TEARDOWN ends much, so it is rare."""
+    """Returns a random list and its world. TEARDOWN is rare, since little can happen after it."""
     pick = random.Random(seed)
     moves = [RESUBSCRIBE, HEAR]
     moves += [pick.choice(USUAL) if pick.random() < 0.99 else TEARDOWN for _ in range(pick.randrange(39))]
@@ -541,7 +549,7 @@ def at_random(seed):
 
 
 def lists(sample, count):
-    """The lists to be tried, and their worlds."""
+    """Yields the lists to be tried, and their worlds."""
     every = (it for beginning in BEGINNINGS for it in grown(led_to(beginning), beginning, DEPTH))
     for number, it in enumerate(every):
         if number % sample == 0:
@@ -554,30 +562,30 @@ def lists(sample, count):
 
 
 class Run:
-    """What the program is given, and what it must print."""
+    """The input of the program, and the lines that it must print."""
 
     def __init__(self):
-        self.given, self.wanted = [], []
+        self.input, self.expected = [], []
 
     def add(self, moves, world):
-        """One list; and the same once all that waits was heard and what may come again has come again."""
+        """Adds a list, and the list with further moves: all waiting events are received, and calls are repeated."""
         more = [HEAR] * len(world.waiting) + world.repeats()
         later = world
         for it in more:
             later = later.made(it)
         lines = [it.line for it in moves]
-        self.given.append("\n".join([*lines, "end", *lines, *(it.line for it in more), "end\n"]))
-        self.wanted.append((moves, world, world.end(), later.end()))
+        self.input.append("\n".join([*lines, "end", *lines, *(it.line for it in more), "end\n"]))
+        self.expected.append((moves, world, world.end(), later.end()))
 
     def lines(self, first=0, last=None):
-        """What must be printed of these lists."""
-        return [line for _, _, *both in self.wanted[first:last] for line in both]
+        """Returns the expected lines of these lists."""
+        return [line for _, _, *both in self.expected[first:last] for line in both]
 
 
 def compare(run, printed):
-    """How many lists came out otherwise; the first ones are told."""
+    """Returns the number of lists whose lines are wrong, and prints the first of them."""
     failed = 0
-    for number, (moves, world, end, later) in enumerate(run.wanted):
+    for number, (moves, world, end, later) in enumerate(run.expected):
         got = printed[2 * number : 2 * number + 2]
         why = None if got == [end, later] else "another world"
         if len(got) == 2:
@@ -586,59 +594,62 @@ def compare(run, printed):
             continue
         failed += 1
         if failed <= 5:
-            print(f"failed: {why}:", "\n  ".join(it.line for it in moves))
-            print("  wanted:", end, "\n  and:   ", later, "\n  got:   ", "\n          ".join(got))
+            print(f"failed: {why}\n  input:   ", "\n            ".join(it.line for it in moves))
+            print("  expected:", end, "\n           ", later, "\n  got:     ", "\n            ".join(got))
     return failed
 
 
 def run_program(run, program):
-    """Runs the built program once: how many lists came out otherwise."""
+    """Runs the built program once. Returns the number of lists whose lines are wrong."""
     with tempfile.TemporaryFile("w+") as file:
-        file.writelines(run.given)
+        file.writelines(run.input)
         file.seek(0)
         done = subprocess.run([program], stdin=file, capture_output=True, text=True, check=False)
     printed = done.stdout.splitlines()
     failed = compare(run, printed)
-    if done.returncode != 0 or len(printed) != 2 * len(run.wanted):
-        print(f"failed: status {done.returncode}, {len(printed)} lines in place of {2 * len(run.wanted)}: {done.stderr[:400]}")
+    if done.returncode != 0 or len(printed) != 2 * len(run.expected):
+        print(f"failed: status {done.returncode}, {len(printed)} lines instead of {2 * len(run.expected)}: {done.stderr[:400]}")
         failed = max(failed, 1)
     return failed
 
 
 def try_crate(run, crate):
-    """Has `rt try` run the crate on a file of lists at a time, each with what must be printed of it: how many lists of files are lost of
-    which anything came out otherwise, and how many worlds of the model break a law."""
-    cases = -(-len(run.wanted) // LISTS_A_CASE)
+    """Runs the crate by `rt try` on files of lists, each with its expected output.
+
+    Returns the number of lists in the files whose output differs, and of lists whose expected world
+    breaks a law.
+    """
+    cases = -(-len(run.expected) // LISTS_A_CASE)
     with tempfile.TemporaryDirectory() as folder:
-        for first in range(0, len(run.wanted), LISTS_A_CASE):
+        for first in range(0, len(run.expected), LISTS_A_CASE):
             last, name = first + LISTS_A_CASE, os.path.join(folder, f"{first:06}")
             with open(name, "w", encoding="utf-8") as file:
-                file.writelines(run.given[first:last])
+                file.writelines(run.input[first:last])
             with open(name + ".stdout", "w", encoding="utf-8") as file:
                 file.writelines(line + "\n" for line in run.lines(first, last))
         rt = shutil.which("rt") or "/opt/rattle/bin/rt"
-        words = [rt, "try", "--steps", "1", "--seconds", "600", "--cases", folder]
-        done = subprocess.run(words, cwd=crate, capture_output=True, text=True, stdin=subprocess.DEVNULL, check=False)
-    said = done.stdout + done.stderr
-    lost = {int(it) for it in re.findall(r"^case=(\d+) (?!run=ended status=0 .*output=expected)", said, re.M)}
-    if done.returncode != 0 or f"cases={cases} ended={cases} " not in said:
+        command = [rt, "try", "--steps", "1", "--seconds", "600", "--cases", folder]
+        done = subprocess.run(command, cwd=crate, capture_output=True, text=True, stdin=subprocess.DEVNULL, check=False)
+    printed = done.stdout + done.stderr
+    wrong = {int(it) for it in re.findall(r"^case=(\d+) (?!run=ended status=0 .*output=expected)", printed, re.M)}
+    if done.returncode != 0 or f"cases={cases} ended={cases} " not in printed:
         print(f"failed: rt try, status {done.returncode}:", "\n".join(done.stdout.splitlines()[-5:]), done.stderr[-800:])
-        lost = lost or {0}
-    return compare(run, run.lines()) + sum(len(run.wanted[it : it + LISTS_A_CASE]) for it in lost)
+        wrong = wrong or {0}
+    return compare(run, run.lines()) + sum(len(run.expected[it : it + LISTS_A_CASE]) for it in wrong)
 
 
 def main():
-    words = parser(__doc__, sample=1, random=1500)
-    what = words.add_mutually_exclusive_group(required=True)
-    what.add_argument("program", nargs="?")
-    what.add_argument("--try", dest="crate")
-    args = words.parse_args()
+    made = parser(__doc__, "tests/worlds.py --try crates/mes_double_worlds --sample 16 --random 200", sample=1, random=1500)
+    what = made.add_mutually_exclusive_group(required=True)
+    what.add_argument("program", nargs="?", help="the built program of crates/mes_double_worlds")
+    what.add_argument("--try", dest="crate", metavar="CRATE", help="the folder of that crate, which is compiled and run")
+    args = made.parse_args()
     run, cases = Run(), Cases(args.word)
     for moves, world in lists(args.sample, args.random):
         if cases.is_chosen("\n".join(it.line for it in moves)):
             run.add(moves, world)
     cases.failed = run_program(run, args.program) if args.program else try_crate(run, args.crate)
-    cases.passed = len(run.wanted) - cases.failed
+    cases.passed = len(run.expected) - cases.failed
     return cases.end()
 
 

@@ -1,4 +1,4 @@
-"""Lets a process end when its parent ends, however that ends."""
+"""Ends a process when its parent ends for any reason."""
 
 import ctypes
 import os
@@ -9,8 +9,8 @@ PARENT_DEATH_SIGNAL = 1
 
 
 def end_with(parent):
-    """Has the kernel kill this process once its parent, the process of that number, has ended."""
+    """Lets the kernel kill this process when its parent, the process of this number, has ended."""
     ctypes.CDLL(None).prctl(PARENT_DEATH_SIGNAL, signal.SIGKILL, 0, 0, 0)
-    # It may have ended before.
+    # The parent can have ended before the call.
     if os.getppid() != parent:
         os._exit(128 + signal.SIGKILL)

@@ -1,4 +1,4 @@
-"""Reads the functions of the crates, their clauses and the edits that change them, for the scripts that list these."""
+"""Reads the functions of the crates, their clauses, and the mutants that change them."""
 
 import os
 import re
@@ -23,7 +23,7 @@ class Function:
 
 
 class Edit:
-    """A change of the code that the prover must refuse, by the name of its file."""
+    """A mutant: a change of the code that the prover must reject. Its name is that of its file."""
 
     def __init__(self, folder, name):
         self.name = name.removesuffix(".edit")
@@ -32,7 +32,7 @@ class Edit:
 
 
 class Crate:
-    """A crate: its functions by file and line, its edits, and what an edit changes that is no function."""
+    """A crate: its functions by file and line, its edits, and the edits that change other items than functions."""
 
     def __init__(self, name):
         self.name, self.folder = name, f"{TOP}/crates/{name}"
@@ -48,7 +48,7 @@ class Crate:
             self.place(edit)
 
     def is_exported(self, path, name):
-        """Returns whether users of the crate can name this item of the file."""
+        """Returns whether users of the crate can use this item of the file."""
         module = path.removesuffix(".rt").split("/")[0]
         return self.is_program or name in self.exports or module in self.public_modules
 

@@ -13,7 +13,7 @@ import time
 
 TOP = os.path.dirname(os.path.dirname(os.path.realpath(__file__)))
 DEFAULT = "/opt/rattle/bin/rt"
-# The toolchain with which this commit was proved: the line that README.md ends with.
+# The toolchain with which this commit was proved. README.md has it in its last line.
 PROVED_WITH = "rattle-kit-13f logic dac8208d650f15bf"
 
 

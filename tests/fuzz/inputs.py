@@ -1,7 +1,8 @@
-"""The inputs of tests/fuzz, which are made at random: event streams, session logs, chunked bodies, requests and answers to a SUBSCRIBE, good
-ones and spoiled ones.
+"""Generates the random inputs of tests/fuzz, valid and invalid ones.
 
-Each maker takes a `random.Random`, so that a seed makes the same input again. The good ones follow the tables of docs/FORMAT.md.
+They are event streams, session logs, chunked bodies, requests, and responses to SUBSCRIBE. Each
+generator takes a `random.Random`, so that a seed gives the same input again. Valid inputs follow the
+tables of docs/FORMAT.md.
 """
 import base64
 import bisect
@@ -9,12 +10,13 @@ import json
 import re
 from collections import namedtuple
 
-# An input: its kind, its bytes (of requests a list of them, each with the type of its call), and how many events or entries it has. The
-# type and the number are none where the input may be spoiled.
+# An input: its kind, its bytes (for requests a list of pairs: the bytes, and the type of the call), and the number
+# of its events or entries. The type and the number are None if the input may be invalid.
 Input = namedtuple("Input", "kind data count")
 
 
-# ---- messages, by the tables of docs/FORMAT.md: the name of a row, its kind, its mark, and the type that it is a row for
+# ---- messages, by the tables of docs/FORMAT.md
+# A row has its name, its kind, its mark (! required, ? optional, * repeated), and the type for which it is a row.
 
 TABLES = """
 Label: key text !, value text ?; Labels: labels Label *; Allocation: role text ?; Scalar: value thousandths !; Range: begin u64 !, end u64 !
@@ -40,7 +42,7 @@ TABLES = dict(table.split(": ") for table in re.split("; |\n(?! )", TABLES.repla
 TABLES = {name: [row.split(" ") for row in rows.split(", ")] for name, rows in TABLES.items()}
 EVENTS = [name[6:] for name in TABLES if name.startswith("event ")] + ["HEARTBEAT", "INVERSE_OFFERS", "", "ERROR "]
 CALLS = [name[5:] for name in TABLES if name.startswith("call ")] + ["REVIVE", "SUPPRESS"]
-# The names of things are few, so that calls often name what was sent.
+# There are few names, so that calls often have the ids of earlier events.
 NAMES = {
     "framework_id": ["F1"] * 9 + ["F2"], "agent_id": ["A1", "A1", "A2"], "task_id": ["T1", "T2"],
     "id": ["O1", "O2", "O3"], "offer_id": ["O1", "O9"], "offer_ids": ["O1", "O2"],
@@ -54,7 +56,7 @@ NUMBERS = {
     "u64": b"0 1 31000 32000 18446744073709551615 3.0 3e0 30e-1 -0 1e19 184467440737095516150E-1".split(),
     "i32": b"0 -1 1.0 -10e-1 2147483647 -2147483648 -0 256".split(),
 }
-# What may stand in place of a value, good or not.
+# Texts that replace a value, valid or not.
 WILD = b"""-1 1e16 1000000000000000.0005 1e400 -1e400 1e-400 1. .5 01 +1 -- - 18446744073709551616 2147483648 -2147483649
  1e99999999999999999999 true null nul NaN 'a' [] {} [null] "AAE" "AAE===" "AB==" "" "TASK_X" """.split()
 WILD += [b"9" * 64, b"9" * 65, b"0." + b"0" * 62 + b"1"]
@@ -72,7 +74,7 @@ KINDS = {
 
 
 class Members(list):
-    """The members of an object, as pairs. A text is a str, a list an array, and bytes stand for themselves."""
+    """The members of an object, as pairs. In values, a str is a text, a list is an array, and bytes are copied."""
 
 
 def named(name):
@@ -101,7 +103,7 @@ def value_of(pick, name, kind):
 
 
 def message(pick, table, **given):
-    """A good message, with these members and others at random."""
+    """Returns a valid message with these members, and others at random."""
     members, chosen = Members(), None
     for name, kind, mark, *where in TABLES[table]:
         if where and where != [chosen]:
@@ -144,29 +146,29 @@ def cpus(share):
 
 
 def session(pick, breaks):
-    """The entries of a session log whose calls mostly take what was offered and acknowledge what was heard."""
-    entries, hand, owed = [(b"E", event(pick, "SUBSCRIBED", framework_id=named("F1")))], [], []
+    """Returns the entries of a session log. Most of its calls use outstanding offers and acknowledge updates."""
+    entries, offers, updates = [(b"E", event(pick, "SUBSCRIBED", framework_id=named("F1")))], [], []
     for number in range(pick.randrange(9)):
         step = pick.randrange(8)
         if step < 2:
-            hand.append(dict(message(pick, "Offer", resources=cpus(b"2"))))
-            entries.append((b"E", event(pick, "OFFERS", offers=[Members(hand[-1].items())])))
+            offers.append(dict(message(pick, "Offer", resources=cpus(b"2"))))
+            entries.append((b"E", event(pick, "OFFERS", offers=[Members(offers[-1].items())])))
         elif step == 2:
-            owed.append(dict(message(pick, "TaskStatus", agent_id=named("A1"), uuid=base64.b64encode(UUIDS[number % 3]).decode())))
-            entries.append((b"E", event(pick, "UPDATE", status=Members(owed[-1].items()))))
-        elif step == 3 and hand:
-            offer = hand.pop()
+            updates.append(dict(message(pick, "TaskStatus", agent_id=named("A1"), uuid=base64.b64encode(UUIDS[number % 3]).decode())))
+            entries.append((b"E", event(pick, "UPDATE", status=Members(updates[-1].items()))))
+        elif step == 3 and offers:
+            offer = offers.pop()
             share = cpus(pick.choice([b"0.5", b"1.999", b"2", b"2.001"]))
             task = message(pick, "TaskInfo", task_id=named(f"N{number}"), agent_id=offer["agent_id"], resources=share)
             launch = Members([("type", "LAUNCH"), ("launch", Members([("task_infos", [task])]))])
             entries.append((b"C", call(pick, "ACCEPT", offer_ids=[offer["id"]], operations=[launch])))
-        elif step == 4 and hand:
-            entries.append((b"C", call(pick, "DECLINE", offer_ids=[hand.pop()["id"]])))
-        elif step == 5 and owed:
-            entries.append((b"C", call(pick, "ACKNOWLEDGE", **owed.pop())))
+        elif step == 4 and offers:
+            entries.append((b"C", call(pick, "DECLINE", offer_ids=[offers.pop()["id"]])))
+        elif step == 5 and updates:
+            entries.append((b"C", call(pick, "ACKNOWLEDGE", **updates.pop())))
         elif step == 6 and breaks:
             entries += [(b"B", None), (b"E", event(pick, "SUBSCRIBED", framework_id=named("F1")))]
-            hand = []
+            offers = []
         elif step == 7:
             entries.append((b"C", call(pick, pick.choice(["REVIVE", "SUPPRESS", "KILL", "RECONCILE", "SHUTDOWN", "MESSAGE", None]))))
         else:
@@ -174,11 +176,11 @@ def session(pick, breaks):
     return entries
 
 
-# ---- texts, and how they are spoiled
+# ---- JSON texts, and their damage
 
 
 def quoted(pick, text, loose):
-    """A JSON string, where a character is written as an escape by that chance."""
+    """Returns a JSON string. A character is written as an escape with the probability `loose`."""
     written = b""
     for character in text if loose else "":
         if pick.random() >= loose:
@@ -192,8 +194,8 @@ def quoted(pick, text, loose):
     return b'"' + written + b'"' if loose else json.dumps(text, ensure_ascii=False).encode()
 
 
-def spelled(pick, value, loose):
-    """The JSON text of a value, with white space and escapes by that chance."""
+def json_text(pick, value, loose):
+    """Returns the JSON text of a value, with white space and escapes with the probability `loose`."""
 
     def blank():
         return pick.choice([b" ", b"\t", b"\n", b"\r\n  "]) if pick.random() < loose else b""
@@ -203,15 +205,15 @@ def spelled(pick, value, loose):
     if isinstance(value, str):
         return quoted(pick, value, loose)
     if isinstance(value, Members):
-        items = [blank() + quoted(pick, name, loose) + blank() + b":" + blank() + spelled(pick, it, loose) + blank() for name, it in value]
+        items = [blank() + quoted(pick, name, loose) + blank() + b":" + blank() + json_text(pick, it, loose) + blank() for name, it in value]
     else:
-        items = [blank() + spelled(pick, it, loose) + blank() for it in value]
+        items = [blank() + json_text(pick, it, loose) + blank() for it in value]
     text = b",".join(items) or blank()
     return b"{" + text + b"}" if isinstance(value, Members) else b"[" + text + b"]"
 
 
 def inner(value):
-    """A value and each in it that has members or items."""
+    """Yields a value, and each value in it that has members or items."""
     if isinstance(value, list):
         yield value
         for it in value:
@@ -219,7 +221,7 @@ def inner(value):
 
 
 def decorated(pick, tree):
-    """The tree with unknown members, and its members in another order, which changes nothing."""
+    """Adds unknown members to the tree, and changes the order of members. Its meaning stays."""
     holder = pick.choice([it for it in inner(tree) if isinstance(it, Members)])
     for _ in range(pick.randrange(3)):
         holder.insert(pick.randrange(len(holder) + 1), (pick.choice(["x", "X", "unknown", "typ", "type "]), any_json(pick)))
@@ -228,14 +230,14 @@ def decorated(pick, tree):
 
 
 def deepened(pick, value):
-    """A value inside a few others, or inside about so many that a text may not nest deeper."""
+    """Returns the value inside a few others, or inside enough to reach about the greatest depth."""
     for _ in range(pick.choice([1, 2, 110, 118, 122, 124, 125, 126, 127, 128])):
         value = Members([("a", value)]) if pick.random() < 0.5 else [value]
     return value
 
 
 def disturbed(pick, tree):
-    """The tree with one member or item changed, repeated or left out."""
+    """Changes, repeats or drops one member or item of the tree."""
     holder = pick.choice([it for it in inner(tree) if it])
     at = pick.randrange(len(holder))
     name, value = holder[at] if isinstance(holder, Members) else (None, holder[at])
@@ -257,7 +259,7 @@ TOKENS = rb'\ud834 \udd1e \ud834\ud834 \x \u12 \u0000 " \ { } [ ] , : 0 - 1e9 nu
 
 
 def damaged(pick, data):
-    """The bytes with one stretch of them changed."""
+    """Returns the bytes with one part changed."""
     at = pick.randrange(len(data) + 1)
     end = min(len(data), at + pick.choice([1, 1, 2, 8, 60]))
     other = pick.randrange(len(data) + 1)
@@ -277,7 +279,7 @@ def damaged(pick, data):
 
 
 def size_line(pick, size, wild):
-    """A record's size line; leading zeros are good."""
+    """Returns the size line of a record; leading zeros are valid."""
     if pick.random() < 0.85:
         return b"%d\n" % size
     if not wild:
@@ -287,14 +289,14 @@ def size_line(pick, size, wild):
 
 
 def framed(pick, records, wild):
-    """The trees as records, each behind what stands before its text; where they are wild, some are spoiled."""
+    """Returns the trees as records, each text after its letter. If `wild`, some are damaged."""
     data, loose = b"", pick.choice([0, 0, 0, 0.05, 0.4])
     for letter, tree in records:
         if tree is not None and pick.random() < 0.3:
             tree = decorated(pick, tree)
         if tree is not None and wild and pick.random() < 0.4:
             tree = disturbed(pick, tree)
-        text = letter + (b"" if tree is None else spelled(pick, tree, loose))
+        text = letter + (b"" if tree is None else json_text(pick, tree, loose))
         if wild and pick.random() < 0.2:
             text = damaged(pick, text)
         data += size_line(pick, len(text), wild) + text
@@ -320,7 +322,7 @@ def log(pick):
 
 
 def chunk_line(pick, size, odd):
-    """A good line of a chunk, without its CRLF; an odd one by that chance."""
+    """Returns a valid chunk line without its CRLF, an unusual one with the probability `odd`."""
     if pick.random() >= odd:
         return b"%x" % size
     rest = pick.choice([b"", b";", b" ", b"\t;a=b", b';a="\xff\x80~"', b"; x", b";" + b"x" * 255])
@@ -328,7 +330,7 @@ def chunk_line(pick, size, odd):
 
 
 def in_chunks(pick, data):
-    """A good chunked body of these bytes, as its parts: what each one is, and its bytes."""
+    """Returns the parts of a valid chunked body of these bytes: the kind of each part, and its bytes."""
     parts, at = [], 0
     small = [[1], [1, 2, 3]] if len(data) < 300 else []
     sizes, odd = pick.choice([*small, [7, 30], [511, 512, 513], [1, 40, 4096], [4096]]), pick.choice([0, 0, 0.3])
@@ -342,8 +344,9 @@ def in_chunks(pick, data):
 
 
 CHUNK_FAULTS = ["F1 BadChunkLine", "F2 ChunkLineTooLong", "F3 ChunkTooLarge", "F4 BadChunkEnd", "F5 TrailersTooLong", "F6 EndsInsideChunks"]
-# What may stand in place of a part, which byte of it shows a fault, and the fault's number. A trailer line here is the first one.
-SPOILS = {
+# Bytes that replace a part, the byte of them at which the fault is detected, and the number of the fault. Of the
+# trailer lines the first is replaced.
+DAMAGES = {
     "line": [
         (b"g", 1, 1), (b"", 1, 1), (b"-1", 1, 1), (b"0x1", 2, 1), (b"1\n", 2, 1), (b"1;\x7f", 3, 1), (b"1 \0", 3, 1), (b"f" * 17, 17, 3),
         (b"001" + b"0" * 16, 19, 3), (b"1;" + b"x" * 255, 257, 2), (b"0" * 257, 257, 2), (b"1;" + b"x" * 254 + b"\0", 257, 2), (b"0" * 240 + b"f" * 17, 257, 2),
@@ -360,7 +363,7 @@ def body_of(parts):
 
 
 def places_of(parts):
-    """For each byte of data, how many bytes of the body have come with it."""
+    """Returns the number of bytes of the body up to each byte of data."""
     places, end = [], 0
     for what, piece in parts:
         places += range(end + 1, end + len(piece) + 1) if what == "data" else []
@@ -369,23 +372,26 @@ def places_of(parts):
 
 
 def ended(pick, parts):
-    """The body whole, cut off or with one part spoiled; the fault of that with its byte, or none and the last byte; and how many bytes of
-    data come before."""
-    body, how = body_of(parts), pick.choice(["whole", "whole", "cut", "spoiled"])
+    """Returns the body whole, cut off, or with one part damaged.
+
+    Also returns its fault, or None; the number of bytes used; and the number of bytes of data
+    before the fault or the end.
+    """
+    body, how = body_of(parts), pick.choice(["whole", "whole", "cut", "damaged"])
     if how == "whole":
         return body + pick.choice([b"", b"", b"XYZ", b"0\r\n\r\n", b"\xff"]), None, len(body), len(places_of(parts))
     if how == "cut":
         cut = pick.randrange(len(body))
         return body[:cut], CHUNK_FAULTS[5], cut, bisect.bisect_right(places_of(parts), cut)
     first = next((at for at, (what, _) in enumerate(parts) if what == "trailer"), None)
-    at = pick.choice([at for at, (what, _) in enumerate(parts) if what in SPOILS and (what != "trailer" or at == first)])
-    spoil, byte, number = pick.choice(SPOILS[parts[at][0]])
+    at = pick.choice([at for at, (what, _) in enumerate(parts) if what in DAMAGES and (what != "trailer" or at == first)])
+    damage, byte, number = pick.choice(DAMAGES[parts[at][0]])
     before = body_of(parts[:at])
-    return before + spoil + body_of(parts[at + 1 :]), CHUNK_FAULTS[number - 1], len(before) + byte, len(places_of(parts[:at]))
+    return before + damage + body_of(parts[at + 1 :]), CHUNK_FAULTS[number - 1], len(before) + byte, len(places_of(parts[:at]))
 
 
 def chunked(pick):
-    """A chunked body of a stream, both often good."""
+    """Returns a chunked body of a stream, both often valid."""
     inside = stream(pick)
     parts = in_chunks(pick, inside.data)
     if pick.random() < 0.4:
@@ -396,7 +402,7 @@ def chunked(pick):
     return Input("chunked", ended(pick, parts)[0], None)
 
 
-# ---- heads, requests and answers
+# ---- heads, requests and responses
 
 TARGET = b"POST /api/v1/scheduler HTTP/1.1"
 SUBSCRIBE = b'{"type":"SUBSCRIBE","subscribe":{"framework_info":{"user":"root","name":"n"}}}'
@@ -422,13 +428,14 @@ FIELDS = [
 
 
 def field(pick, name, value):
-    """A field as it may be written."""
+    """Returns a header field, with its name and white space in different forms."""
     name = pick.choice([name, name, name.lower(), name.upper()])
     return name + b":" + pick.choice([b" ", b" ", b"", b"\t ", b"   "]) + value + pick.choice([b"", b"", b"", b" ", b"\t"])
 
 
 def head(pick, start, fields, wild):
-    """The bytes of a head with this first line and these fields in any order; where it is wild, other fields stand between or in their places."""
+    """Returns the bytes of a head with this first line and these fields in any order. If `wild`, other fields are
+    inserted or replace some."""
     pick.shuffle(fields)
     for _ in range(pick.choice([0, 1, 1, 2]) if wild else 0):
         at = pick.randrange(len(fields) + 1)
@@ -437,12 +444,15 @@ def head(pick, start, fields, wild):
 
 
 def request(pick):
-    """The bytes of a request, and the type of its call, or none where it may be spoiled. Few begin or end a stream, which ends much."""
+    """Returns the bytes of a request, and the type of its call, or None if it may be invalid.
+
+    SUBSCRIBE and TEARDOWN are rare, since few calls have an effect after them.
+    """
     wild = pick.random() < 0.65
     name = "TEARDOWN" if pick.random() < 0.002 else "SUBSCRIBE" if pick.random() < 0.02 else pick.choice(CALLS[1:])
     tree = call(pick, name)
     tree = disturbed(pick, tree) if wild and pick.random() < 0.3 else tree
-    body = spelled(pick, tree, pick.choice([0, 0, 0.1]))
+    body = json_text(pick, tree, pick.choice([0, 0, 0.1]))
     body = damaged(pick, body) if wild and pick.random() < 0.15 else body
     size = max(0, len(body) + (pick.choice([-1, 1, 1000]) if wild and pick.random() < 0.15 else 0))
     fields = [b"Host: h", field(pick, b"Content-Type", pick.choice([b"application/json", b"Application/JSON;charset=utf-8"]))]
@@ -459,8 +469,8 @@ def requests(pick):
     return Input("request", [request(pick) for _ in range(40)], None)
 
 
-def answer(pick):
-    """The bytes of an answer to a SUBSCRIBE, whose head may be spoiled, and behind it any chunked body."""
+def response(pick):
+    """Returns a response to SUBSCRIBE: a head that may be invalid, and any chunked body."""
     wild = pick.random() < 0.6
     fields = [
         field(pick, b"Content-Type", pick.choice([b"application/json", b"Application/JSON ;charset=utf-8"])),
@@ -470,7 +480,7 @@ def answer(pick):
     data = head(pick, pick.choice(STATUS_LINES if wild and pick.random() < 0.25 else OK_LINES), fields, wild)
     while wild and pick.random() < 0.3:
         data = damaged(pick, data)
-    return Input("answer", data + chunked(pick).data, None)
+    return Input("response", data + chunked(pick).data, None)
 
 
-MAKERS = {"stream": stream, "chunked": chunked, "log": log, "request": requests, "answer": answer}
+MAKERS = {"stream": stream, "chunked": chunked, "log": log, "request": requests, "response": response}

@@ -1,26 +1,27 @@
 #!/usr/bin/env python3
-"""Runs a built mesosev over inputs that are made at random, good ones and spoiled ones, and checks what holds of any input.
+"""Runs the built command on random inputs, valid and invalid, and checks properties that hold for every input.
 
-A seed makes the same inputs in the same order, and they end once the seconds (60) have passed. --case tries the case of that number
-alone. With --beside, OTHER runs each command on the same input too, and must print the same and end with the same status; `serve` is
-left to PROGRAM. What is checked, in turn:
+The same seed gives the same inputs in the same order. The properties are:
 
-  plain against chunked  a stream, and the same bytes in a chunked body that is cut anyhow, whole, cut off or spoiled
+  plain against chunked  a stream, and the same bytes in a chunked body with cuts and damage
   whole against pieces   an input as a file, and through a pipe in pieces of 1, 7 and 511 bytes
-  show against check     the same last line and status; each line of an event has its form; a good stream has all its events
-  convert twice          what convert writes is read to the same events and converted to the same bytes, plain and in chunks
-  relog twice            the same of relog; and a log and its relog are replayed to the same lines
-  requests               a running serve answers or closes, prints a line for each connection, and serves on
-  answers                subscribe refuses the head of an answer as heads.py does, or shows what stands behind it as show does
-  any words              good and bad words before any input
+  show against check     equal last lines and statuses; each event line has its form; a valid
+                         stream has all its events
+  convert twice          the output of convert has the same events, and is its own conversion,
+                         plain and in chunks
+  relog twice            the same for relog; a log and its relog are replayed to the same lines
+  requests               serve responds or closes, prints a line per connection, and goes on
+  responses              subscribe rejects the same heads as heads.py, and prints the same
+                         events as show
+  arguments              valid and invalid arguments with any input
 
-In each run the status is 0, 1 or 2, standard error has what docs/FORMAT.md says, and the end comes within 10 seconds.
-The first case that fails ends it: it is told with its property, seed, number and input, which is written to a folder of its own for
-temporary files, and with --keep to the folder seen beside this script too. Each file there, PROPERTY.KIND.NAME, is tried first, in
-its property as it was then and in all properties of its kind. Of a good input the kind has what is known of it: stream-3 has three
-events, log-3 three entries, and request-KILL is a KILL.
-With -k only the properties with WORD in their name are looked at. The last line is 'N passed, M failed', of inputs; the status is
-0 if nothing failed.
+In each run the status is 0, 1 or 2, standard error is as in docs/FORMAT.md, and the run ends
+within 60 seconds.
+
+The script ends at the first failed case. It prints the property, the seed, the number and the
+input, and stores the input in a new temporary folder. The inputs in the folder seen next to this
+script are tried first; its README.md describes their names. A case is an input. For -k WORD, the
+name is that of the property.
 """
 import itertools
 import os
@@ -35,47 +36,47 @@ import tempfile
 import time
 from collections import Counter, namedtuple
 
-sys.dont_write_bytecode = True  # Nothing is left beside the scripts.
+sys.dont_write_bytecode = True
 sys.path.insert(0, os.path.dirname(os.path.dirname(os.path.abspath(__file__))))
 import heads
 import inputs
 from support import Cases, free_port, parser, read_all
 
-# How long a run may take, in seconds. Other tests run beside it.
+# The time limit of a run, in seconds. Other tests run at the same time.
 LIMIT = 60
 SEEN = os.path.join(os.path.dirname(os.path.abspath(__file__)), "seen")
 Ran = namedtuple("Ran", "out err status")
-# What `subscribe` sends to a host.
-SUBSCRIBING = (
+# The request of `subscribe` to a host.
+SUBSCRIBE_REQUEST = (
     b"POST /api/v1/scheduler HTTP/1.1\r\nHost: %s\r\nContent-Type: application/json\r\nAccept: application/json\r\nConnection: close\r\n"
     b'Content-Length: 75\r\n\r\n{"type":"SUBSCRIBE","subscribe":{"framework_info":{"user":"u","name":"n"}}}'
 )
 
 
 class Difference(Exception):
-    """What is not as it should be, and of several inputs the one that shows it."""
+    """A property that does not hold. Of several inputs, `data` is the one that shows it."""
 
     def __init__(self, why, data=None):
         super().__init__(why)
         self.data = data
 
 
-def expect(what, wanted, got, data=None):
-    if wanted != got:
-        raise Difference(f"{what}\n  wanted: {wanted!r}\n  got:    {got!r}", data)
+def expect(what, expected, got, data=None):
+    if expected != got:
+        raise Difference(f"{what}\n  expected: {expected!r}\n  got:      {got!r}", data)
 
 
 # ---- runs of the program
 
 
 def form(pattern):
-    """The lines of this form, where N, TEXT and UUID stand for such."""
+    """Returns the pattern for lines of this form, in which N is a number, TEXT a JSON string and UUID a uuid."""
     text = r'"(?:[^"\\\x00-\x1f]|\\["\\bfnrt]|\\u00[01][0-9a-f])*"'
     uuid = r"(?:[0-9a-f]{8}(?:-[0-9a-f]{4}){3}-[0-9a-f]{12}|hex:(?:[0-9a-f]{2})*)"
     return re.compile(re.sub(r"\bN\b", "(?:0|[1-9][0-9]*)", pattern).replace("TEXT", text).replace("UUID", uuid).encode())
 
 
-# F13 to F15 and S8 are of devices and memory, which don't fail here.
+# F13 to F15 and S8 are missing: devices and allocations do not fail here.
 FAULT = (
     "fault (?:" + "|".join(inputs.CHUNK_FAULTS) + "|F7 BadSizeLine|F8 SizeLineTooLong|F9 RecordTooLarge|F10 EndsInsideRecord"
     r"|F11 Text record N byte N (?:End|Depth|Byte)|F12 Field record N (?:\.|[a-z_][a-z_.0-9\[\]]*)"
@@ -85,12 +86,13 @@ REFUSED = (
     r"refused (?:(?:S1 NotSubscribed|S2 NamedTwice|S4 TwoAgents|S7 NotOwed) record N|S3 NoSuchOffer record N index N"
     r"|S5 WrongAgent record N task N|S6 Exceeds record N task N resource N)\n"
 )
-# H1 is of devices too.
+# H1 is a fault of devices too.
 HEADS = r"refused (?:H2 HeadTooLong|H3 BadHead|H4 Status N|H5 NotChunked|H6 NotJson|H7 NoStreamId)\n"
-# The last line of output with status 0 and with status 1, a report, and the lines on standard error.
+# The last line of output with status 0 and with status 1, a report, the lines of convert and relog on standard
+# error, and a usage error.
 GOOD_END, BAD_END = form(r"events N bytes N\n"), form(FAULT + "|" + REFUSED + "|" + HEADS + r"|net write failed\n")
 REPORT = form(r"entries N\nframework (?:-|TEXT)\n(?:hand TEXT\n)*(?:owed TEXT TEXT UUID\n)*")
-TOLD, MISTAKE = form(FAULT + r"|encode failed event N (?:TooDeep|TooLarge)\n"), re.compile(rb"error: .+\n", re.DOTALL)
+ERROR_LINE, USAGE_ERROR = form(FAULT + r"|encode failed event N (?:TooDeep|TooLarge)\n"), re.compile(rb"error: .+\n", re.DOTALL)
 EVENT = form(
     r"N (?:SUBSCRIBED TEXT (?:-|N\.[0-9]{1,6})|OFFERS (N)|RESCIND TEXT|UPDATE TEXT TASK_[A-Z_]+ (?:-|UUID)|MESSAGE TEXT TEXT N"
     r"|FAILURE (?:-|TEXT) (?:-|TEXT) (?:-|-?N)|ERROR TEXT|HEARTBEAT|OTHER TEXT)\n"
@@ -102,22 +104,22 @@ def last_line(out):
     return out[out.rfind(b"\n", 0, -1) + 1 :]
 
 
-def never(words, ran, bad):
-    """Differs where no input leads to this: the status and what stands on standard error."""
+def expect_form(args, ran, bad):
+    """Checks that the status and both outputs have a documented form; for `bad` arguments, that of a usage error."""
     if bad:
-        good = ran.status == 2 and not ran.out and MISTAKE.fullmatch(ran.err)
-    elif words[0] in ("convert", "relog"):
-        good = ran.err == b"" if ran.status == 0 else ran.status == 1 and not ran.out and TOLD.fullmatch(ran.err)
+        good = ran.status == 2 and not ran.out and USAGE_ERROR.fullmatch(ran.err)
+    elif args[0] in ("convert", "relog"):
+        good = ran.err == b"" if ran.status == 0 else ran.status == 1 and not ran.out and ERROR_LINE.fullmatch(ran.err)
     else:
-        line = last_line(ran.out) if words[0] in ("show", "loopback", "subscribe") else ran.out
-        good_end = REPORT if words[0] == "replay" else GOOD_END
+        line = last_line(ran.out) if args[0] in ("show", "loopback", "subscribe") else ran.out
+        good_end = REPORT if args[0] == "replay" else GOOD_END
         good = not ran.err and ran.status in (0, 1) and (BAD_END if ran.status else good_end).fullmatch(line)
     if not good:
-        raise Difference(f"{words} may not end so: status {ran.status}, {ran.out[-300:]!r}, {ran.err[-300:]!r}")
+        raise Difference(f"{args} ends in an undocumented form: status {ran.status}, {ran.out[-300:]!r}, {ran.err[-300:]!r}")
 
 
 class Program:
-    """The built program. Its input and output are files that each run uses again, which is cheap."""
+    """The built program. All runs share the files for input and output, which is faster."""
 
     def __init__(self, path):
         self.path = os.path.abspath(path)
@@ -127,11 +129,11 @@ class Program:
     def late(self, *_):
         raise Difference(f"no end within {LIMIT} seconds")
 
-    def start(self, words, given):
+    def start(self, args, source):
         for file in (self.out, self.err):
             file.seek(0)
             file.truncate()
-        return subprocess.Popen([self.path, *words], stdin=given, stdout=self.out, stderr=self.err, close_fds=False)
+        return subprocess.Popen([self.path, *args], stdin=source, stdout=self.out, stderr=self.err, close_fds=False)
 
     def holding(self, data):
         self.input.seek(0)
@@ -141,7 +143,7 @@ class Program:
         return self.input
 
     def end(self, running, feed=lambda: None):
-        """What a run that is fed so printed and answers."""
+        """Feeds a run, and returns its outputs and status."""
         signal.alarm(LIMIT)
         try:
             feed()
@@ -154,19 +156,19 @@ class Program:
         self.err.seek(0)
         return Ran(self.out.read(), self.err.read(), status)
 
-    def run(self, words, data, piece=None, bad=False):
-        """The command over the bytes of a file, or of a pipe in such pieces; bad words are refused."""
+    def run(self, args, data, piece=None, bad=False):
+        """Runs the command on a file, or on a pipe that gets pieces of `piece` bytes. `bad` arguments are a usage error."""
         if piece is None:
-            ran = self.end(self.start(words, self.holding(data)))
+            ran = self.end(self.start(args, self.holding(data)))
         else:
-            ran = self.piped(words, data, piece)
-        never(words, ran, bad)
+            ran = self.piped(args, data, piece)
+        expect_form(args, ran, bad)
         return ran
 
-    def piped(self, words, data, piece):
-        # A pipe of packets, so that no read gets two pieces.
+    def piped(self, args, data, piece):
+        # In a pipe of packets no read returns two pieces.
         reading, writing = os.pipe2(os.O_DIRECT | os.O_CLOEXEC)
-        running = self.start(words, reading)
+        running = self.start(args, reading)
         os.close(reading)
 
         def feed():
@@ -180,40 +182,40 @@ class Program:
         return self.end(running, feed)
 
     def subscribe(self, data, piece):
-        """`subscribe` to a server of this host, which answers these bytes in such pieces."""
+        """Runs `subscribe` with a server that sends the bytes in pieces of `piece` bytes."""
         with socket.create_server(("127.0.0.1", 0)) as listener:
             to = f"127.0.0.1:{listener.getsockname()[1]}"
-            words, request = ["subscribe", "--to", to, "--user", "u", "--name", "n"], SUBSCRIBING % to.encode()
+            args, request = ["subscribe", "--to", to, "--user", "u", "--name", "n"], SUBSCRIBE_REQUEST % to.encode()
 
             def feed():
                 client = listener.accept()[0]
                 with client:
                     client.setsockopt(socket.IPPROTO_TCP, socket.TCP_NODELAY, 1)
-                    asked = b""
-                    while len(asked) < len(request) and (more := client.recv(65536)):
-                        asked += more
-                    expect("the request of subscribe", request, asked)
+                    received = b""
+                    while len(received) < len(request) and (more := client.recv(65536)):
+                        received += more
+                    expect("the request of subscribe", request, received)
                     try:
                         for at in range(0, len(data), piece):
                             client.sendall(data[at : at + piece])
                     except OSError:
                         pass  # It has read enough.
 
-            ran = self.end(self.start(words, subprocess.DEVNULL), feed)
-        never(words, ran, False)
+            ran = self.end(self.start(args, subprocess.DEVNULL), feed)
+        expect_form(args, ran, False)
         return ran
 
 
 class Beside(Program):
-    """The program, and another one that must end as it does on the same input."""
+    """The program, and another one that must have the same outputs and status."""
 
     def __init__(self, path, other):
         super().__init__(path)
         self.other = Program(other)
 
-    def run(self, words, data, piece=None, bad=False):
-        ran = super().run(words, data, piece, bad)
-        expect(f"{words} by {self.other.path}", ran, self.other.run(words, data, piece, bad))
+    def run(self, args, data, piece=None, bad=False):
+        ran = super().run(args, data, piece, bad)
+        expect(f"{args} by {self.other.path}", ran, self.other.run(args, data, piece, bad))
         return ran
 
     def subscribe(self, data, piece):
@@ -234,31 +236,31 @@ def framing(given):
 
 
 def plain_against_chunked(program, pick, given):
-    """What the bytes before a fault of the chunks show is told of the same byte; that fault comes where they show nothing."""
-    parts, words = inputs.in_chunks(pick, given.data), [pick.choice(["check", "show"]), *limits(pick)]
+    """Checks that the bytes before a fault of the chunks have the same fault as in a plain stream, or that one."""
+    parts, args = inputs.in_chunks(pick, given.data), [pick.choice(["check", "show"]), *limits(pick)]
     body, fault, last, count = inputs.ended(pick, parts)
-    plain = program.run(words, given.data[:count])
-    told, used = last_line(plain.out).rsplit(b" ", 1)
-    if plain.status == 0 or told.startswith(b"fault F10 "):
+    plain = program.run(args, given.data[:count])
+    text, used = last_line(plain.out).rsplit(b" ", 1)
+    if plain.status == 0 or text.startswith(b"fault F10 "):
         # The end of the plain bytes: in the body its last byte, or the fault of its chunks.
-        line = b"%s %d\n" % (told, last) if fault is None else f"fault {fault} after {last}\n".encode()
+        line = b"%s %d\n" % (text, last) if fault is None else f"fault {fault} after {last}\n".encode()
     else:
-        expect(f"{words}: a byte that {told!r} stands behind", True, 0 < int(used) <= count)
-        line = b"%s %d\n" % (told, inputs.places_of(parts)[int(used) - 1])
-    wanted = Ran(plain.out[: -len(last_line(plain.out))] + line, b"", 1 if fault else plain.status)
-    expect(f"{words} --chunked of {body!r}", wanted, program.run([*words, "--chunked"], body))
+        expect(f"{args}: {text!r} is after a byte of the stream", True, 0 < int(used) <= count)
+        line = b"%s %d\n" % (text, inputs.places_of(parts)[int(used) - 1])
+    expected = Ran(plain.out[: -len(last_line(plain.out))] + line, b"", 1 if fault else plain.status)
+    expect(f"{args} --chunked of {body!r}", expected, program.run([*args, "--chunked"], body))
 
 
 def whole_against_pieces(program, pick, given):
-    words = [pick.choice(["replay", "relog"] if given.kind == "log" else ["check", "show", "convert"]), *framing(given), *limits(pick)]
-    words += ["--most", str(pick.choice([1, 7, 4096]))] if words[0] == "convert" and pick.random() < 0.3 else []
-    whole = program.run(words, given.data)
+    args = [pick.choice(["replay", "relog"] if given.kind == "log" else ["check", "show", "convert"]), *framing(given), *limits(pick)]
+    args += ["--most", str(pick.choice([1, 7, 4096]))] if args[0] == "convert" and pick.random() < 0.3 else []
+    whole = program.run(args, given.data)
     for piece in (1, 7, 511):
-        expect(f"{words} in pieces of {piece}", whole, program.run(words, given.data, piece))
+        expect(f"{args} in pieces of {piece}", whole, program.run(args, given.data, piece))
 
 
-def events_shown(out):
-    """How many events `show` has printed, each in lines of its form."""
+def count_shown(out):
+    """Returns the number of events that `show` has printed. Checks the form of their lines."""
     number = offers = 0
     for line in out.splitlines(keepends=True)[:-1]:
         number += 0 if offers else 1
@@ -266,36 +268,36 @@ def events_shown(out):
         if not found:
             raise Difference(f"the line {line!r} of {out!r}")
         offers = offers - 1 if offers else int(found[1] or 0)
-    expect("lines of offers that are not there", 0, offers)
+    expect("missing lines of offers", 0, offers)
     return number
 
 
 def show_against_check(program, pick, given):
-    words = framing(given) + limits(pick)
-    shown, checked = program.run(["show", *words], given.data), program.run(["check", *words], given.data)
-    expect(f"the last line of show and check {words}", checked, Ran(last_line(shown.out), b"", shown.status))
-    count = events_shown(shown.out)
+    args = framing(given) + limits(pick)
+    shown, checked = program.run(["show", *args], given.data), program.run(["check", *args], given.data)
+    expect(f"the last line of show and check {args}", checked, Ran(last_line(shown.out), b"", shown.status))
+    count = count_shown(shown.out)
     found = re.match(rb"events (\d+) |fault F1[12] \w+ record (\d+) ", checked.out)
     if found:
-        expect(f"events {words}", int(found[1] or int(found[2]) - 1), count)
-    if given.count is not None and "--limit" not in words:
-        expect("a good stream", b"events %d bytes %d\n" % (given.count, len(given.data)), checked.out)
+        expect(f"the number of events of show {args}", int(found[1] or int(found[2]) - 1), count)
+    if given.count is not None and "--limit" not in args:
+        expect("the line of a valid stream", b"events %d bytes %d\n" % (given.count, len(given.data)), checked.out)
 
 
 def convert_twice(program, pick, given):
-    words, limit = framing(given), limits(pick)
-    shown, first = program.run(["show", *words, *limit], given.data), program.run(["convert", *words, *limit], given.data)
+    args, limit = framing(given), limits(pick)
+    shown, first = program.run(["show", *args, *limit], given.data), program.run(["convert", *args, *limit], given.data)
     if shown.status or first.err.startswith(b"fault"):
         expect("the fault of convert", last_line(shown.out), first.err)
     if first.status:
         return
     again = program.run(["show", *limit], first.out)
     count = last_line(shown.out).split(b" ")[1]
-    expect("what show prints of it", shown.out[: -len(last_line(shown.out))] + b"events %s bytes %d\n" % (count, len(first.out)), again.out)
-    expect("convert of it", first, program.run(["convert", *limit], first.out))
+    expect("show of the output of convert", shown.out[: -len(last_line(shown.out))] + b"events %s bytes %d\n" % (count, len(first.out)), again.out)
+    expect("convert of the output of convert", first, program.run(["convert", *limit], first.out))
     most = ["--most", str(pick.choice([1, 2, 7, 100, 511, 512, 4096, 16777216]))]
-    body = program.run(["convert", *words, *limit, *most], given.data)
-    expect(f"convert of convert {most}", first, program.run(["convert", "--chunked", *limit], body.out))
+    body = program.run(["convert", *args, *limit, *most], given.data)
+    expect(f"convert of the output of convert {most}", first, program.run(["convert", "--chunked", *limit], body.out))
 
 
 def relog_twice(program, pick, given):
@@ -305,55 +307,55 @@ def relog_twice(program, pick, given):
         expect("the fault of relog", replayed.out, first.err)
     if first.status:
         return
-    expect("the header of it", b"1\n2", first.out[:3])
-    expect("relog of it", first, program.run(["relog", *limit], first.out))
-    expect("replay of it", replayed, program.run(["replay", *limit], first.out))
+    expect("the header of the output of relog", b"1\n2", first.out[:3])
+    expect("relog of the output of relog", first, program.run(["relog", *limit], first.out))
+    expect("replay of the output of relog", replayed, program.run(["replay", *limit], first.out))
     if replayed.status == 0 and given.count is not None:
-        expect("the entries of a good log", b"entries %d\n" % given.count, replayed.out.splitlines(keepends=True)[0])
+        expect("the number of entries of a valid log", b"entries %d\n" % given.count, replayed.out.splitlines(keepends=True)[0])
 
 
-def answers(program, pick, given):
-    """An answer is refused by its head, or what stands behind that is shown."""
+def responses(program, pick, given):
+    """Checks that a response is rejected by its head, or that its body is printed as by `show`."""
     refusal, size = heads.refusal(given.data)
     piece = pick.choice([len(given.data), len(given.data), 511, 40]) + len(given.data) // 500 + 1
     ran = program.subscribe(given.data, piece)
     if refusal:
-        expect("the head of an answer", Ran(f"refused {refusal}\n".encode(), b"", 1), ran)
+        expect("subscribe with such a head", Ran(f"refused {refusal}\n".encode(), b"", 1), ran)
     else:
-        expect("the stream of an answer", program.run(["show", "--chunked"], given.data[size:]), ran)
+        expect("subscribe with such a body", program.run(["show", "--chunked"], given.data[size:]), ran)
 
 
 OPTIONS = {"check": "lc", "show": "lc", "convert": "lcm", "replay": "l", "relog": "l", "loopback": "m"}
-BAD_WORDS = [
+BAD_ARGUMENTS = [
     ["--limit", "0"], ["--limit", "67108865"], ["--limit=x"], ["--limit"], ["--limit", "-1"], ["--most", "0"], ["--most=16777217"], ["--chunked=1"],
     ["--chunked", "--chunked"], ["--port", "1"], ["-x"], ["x"], [""], [b"\xff"],
 ]
 
 
-def any_words(program, pick, given):
-    """Any command over any kind of input; a fault of the input of `loopback` is what `check` tells."""
+def arguments(program, pick, given):
+    """Runs any command on any kind of input. Faults of the input of `loopback` must be those of `check`."""
     command = pick.choice(list(OPTIONS))
-    words = [command, *(limits(pick) if "l" in OPTIONS[command] else [])]
-    words += ["--chunked"] if "c" in OPTIONS[command] and pick.random() < 0.3 else []
-    words += [f"--most={pick.choice([1, 3, 64, 16777216])}"] if "m" in OPTIONS[command] and pick.random() < 0.5 else []
+    args = [command, *(limits(pick) if "l" in OPTIONS[command] else [])]
+    args += ["--chunked"] if "c" in OPTIONS[command] and pick.random() < 0.3 else []
+    args += [f"--most={pick.choice([1, 3, 64, 16777216])}"] if "m" in OPTIONS[command] and pick.random() < 0.5 else []
     bad = pick.random() < 0.2
-    ran = program.run(words + (pick.choice(BAD_WORDS) if bad else []), given.data, bad=bad)
+    ran = program.run(args + (pick.choice(BAD_ARGUMENTS) if bad else []), given.data, bad=bad)
     if command == "loopback" and not bad:
         checked = program.run(["check"], given.data)
         if checked.status:
             expect("the fault of loopback", checked, ran)
         elif ran.status == 0:
-            events_shown(ran.out)
+            count_shown(ran.out)
         else:
-            expect("loopback of good events", b"net write failed\n", ran.out)
+            expect("loopback of valid events", b"net write failed\n", ran.out)
 
 
 class Serving:
-    """A `serve` that runs, and what came of each of its connections."""
+    """A running `serve`, and the request and response of each of its connections."""
 
     def __init__(self, program, pick, count):
         events = inputs.framed(pick, [(b"", inputs.event(pick)) for _ in range(6)], False)
-        self.port, self.pick, self.asked = free_port(), pick, []
+        self.port, self.pick, self.connections = free_port(), pick, []
         self.running = program.start(["serve", "--port", str(self.port), "--count", str(count)], program.holding(events))
 
     def connect(self):
@@ -366,26 +368,27 @@ class Serving:
         raise Difference("serve has ended, or does not listen")
 
     def ask(self, data, kind, how):
-        """Sends a request whole, in pieces, cut off, or cut off by a client that is gone. What came is none where that can't be known."""
+        """Sends a request whole, in pieces, cut off, or cut off by a client that closes. Returns the response, or None
+        if it is unknown."""
         sent = data[: self.pick.randrange(len(data) + 1)] if how in ("cut", "gone") else data
         size = self.pick.randrange(1, len(data) // 2 + 2) if how == "pieces" else len(data) + 1
-        came, linger = None, self.pick.random() < 0.5
+        response, linger = None, self.pick.random() < 0.5
         with self.connect() as client:
             client.setsockopt(socket.IPPROTO_TCP, socket.TCP_NODELAY, 1)
             try:
                 whole = self.send(client, [sent[at : at + size] for at in range(0, len(sent), size)])
                 if how != "gone":
-                    came = read_all(client)
-                    came = came if came or whole else None
+                    response = read_all(client)
+                    response = response if response or whole else None
                 elif linger:
                     client.setsockopt(socket.SOL_SOCKET, socket.SO_LINGER, struct.pack("ii", 1, 0))
             except TimeoutError as error:
-                raise Difference(f"no answer within {LIMIT} seconds to {sent[:200]!r}", data) from error
-        self.asked.append((data, kind, how, came))
-        return came
+                raise Difference(f"no response within {LIMIT} seconds to {sent[:200]!r}", data) from error
+        self.connections.append((data, kind, how, response))
+        return response
 
     def send(self, client, pieces):
-        """Whether all was sent; else it has answered before."""
+        """Sends the pieces. Returns whether all were sent; otherwise serve has responded before."""
         try:
             for piece in pieces:
                 client.sendall(piece)
@@ -404,41 +407,41 @@ STATUS = re.compile(
 )
 
 
-def answered(asked, line, streams):
-    """That a line has its form, and tells what was answered: of a stream the next one. A good request is answered by its type."""
-    data, kind, how, came = asked
+def expect_line(connection, line, streams):
+    """Checks that a line has its form, and reports the response of its connection. The stream has the number `streams`."""
+    data, kind, how, response = connection
     status, name, unwritten = line.groups()
     known = name.decode() in [*inputs.CALLS, "TEARDOWN"]
     statuses = [b"200", b"403"] if name == b"SUBSCRIBE" else [b"202", b"400", b"403"] if known else [b"400", b"404", b"405", b"-"]
     expect(f"the line {line[0]!r} has a form", (True, True), (known or name == b"-", status in statuses), data)
     if kind and how in ("whole", "pieces"):
-        expect("the type of a good call", kind.encode(), name, data)
-    if came == b"":
-        expect(f"the line {line[0]!r} of nothing answered", (b"-", None), (status, unwritten), data)
-    elif came and status == b"200":
-        head = HEAD.match(came)
-        expect(f"the stream of {came[:200]!r}", b"00000000-0000-4000-8000-%012x" % streams, head and head[1], data)
-    elif came:
-        found = STATUS.fullmatch(came)
-        expect(f"the line {line[0]!r} of {came[:200]!r}", (status, None), (found and found[1][:3], unwritten), data)
+        expect("the type of a valid call", kind.encode(), name, data)
+    if response == b"":
+        expect(f"the line {line[0]!r} of a connection without a response", (b"-", None), (status, unwritten), data)
+    elif response and status == b"200":
+        head = HEAD.match(response)
+        expect(f"the stream of {response[:200]!r}", b"00000000-0000-4000-8000-%012x" % streams, head and head[1], data)
+    elif response:
+        found = STATUS.fullmatch(response)
+        expect(f"the line {line[0]!r} of {response[:200]!r}", (status, None), (found and found[1][:3], unwritten), data)
 
 
-def served_lines(asked, out):
-    """That each connection has its line, the same in whatever pieces a request came, and that the last one got a stream."""
+def expect_lines(connections, out):
+    """Checks that each connection has its line, that pieces do not change it, and that the last one has a stream."""
     lines = list(SERVED.finditer(out))
-    expect("the lines of serve", (out, len(asked)), (b"".join(it[0] for it in lines), len(lines)))
+    expect("the lines of serve", (out, len(connections)), (b"".join(it[0] for it in lines), len(lines)))
     streams, down, before = 0, False, None
-    for one, line in zip(asked, lines):
+    for one, line in zip(connections, lines):
         streams += line[1] == b"200"
-        answered(one, line, streams)
+        expect_line(one, line, streams)
         if one[2] == "pieces" and before[0] != b"202 TEARDOWN\n":
             expect("a request in pieces", before[0], line[0], one[0])
         down, before = down or line[0] == b"202 TEARDOWN\n", line
-    expect("a good request behind them", b"403 SUBSCRIBE\n" if down else b"200 SUBSCRIBE\n", lines[-1][0])
+    expect("a valid request after the others", b"403 SUBSCRIBE\n" if down else b"200 SUBSCRIBE\n", lines[-1][0])
 
 
 def serve_requests(program, pick, given):
-    """Each request is sent whole, and then in another way; a good one before and behind them."""
+    """Sends each request whole, and then in another way. A valid one comes first and last."""
     serving = Serving(program, pick, 2 * len(given.data) + 2)
     try:
         serving.ask(inputs.GOOD_REQUEST, "SUBSCRIBE", "whole")
@@ -451,14 +454,15 @@ def serve_requests(program, pick, given):
         raise Difference(f"{difference}; serve: {program.end(serving.running)}", difference.data) from difference
     ran = program.end(serving.running)
     expect("the end of serve", (b"", 0), (ran.err, ran.status))
-    served_lines(serving.asked, ran.out)
+    expect_lines(serving.connections, ran.out)
     if body:
         expect("the last stream", b"%d\n" % len(body), program.run(["check", "--chunked"], body).out.rsplit(b" ", 1)[1])
 
 
 # ---- the cases
 
-# Each property, the kinds of input that it takes, and how many cases it has in a round, so that each has about as much time.
+# The function of each property, the kinds of its inputs, and the number of its cases in a round, with which the
+# properties take about equal times.
 PROPERTIES = {
     "plain against chunked": (plain_against_chunked, ["stream"], 6),
     "whole against pieces": (whole_against_pieces, ["stream", "chunked", "log"], 3),
@@ -466,19 +470,19 @@ PROPERTIES = {
     "convert twice": (convert_twice, ["stream", "chunked"], 4),
     "relog twice": (relog_twice, ["log"], 4),
     "requests": (serve_requests, ["request"], 1),
-    "answers": (answers, ["answer"], 6),
-    "any words": (any_words, ["stream", "chunked", "log"], 10),
+    "responses": (responses, ["response"], 6),
+    "arguments": (arguments, ["stream", "chunked", "log"], 10),
 }
 ROUND = [name for name, (_, _, share) in PROPERTIES.items() for _ in range(share)]
 
 
 def kept_as(name, kind, known, label):
-    """The name of the file of an input that failed in a property; what is known of it is none where it may be spoiled."""
+    """Returns the file name of an input that failed. `known` is the number or type of a valid input, else None."""
     return f"{name.replace(' ', '-')}.{kind}{'' if known is None else f'-{known}'}.{label}"
 
 
 def kept_in(file):
-    """What the file of such a name has: the property, the input and the label."""
+    """Reads the file of this name. Returns its property, its input and its label."""
     name, kind, label = file.split(".", 2)
     kind, _, known = kind.partition("-")
     with open(os.path.join(SEEN, file), "rb") as seen:
@@ -489,8 +493,8 @@ def kept_in(file):
 
 
 def shown_by(given, request):
-    """What shows a difference, each with what is known of it: of several requests the one, with the type of its call, or where none is told
-    each of them."""
+    """Returns the bytes that show a difference, with the number or type of a valid input: `request`, all requests if it
+    is None, or the single input."""
     if given.kind != "request":
         return [(given.data, given.count)]
     known = dict([*given.data, (inputs.GOOD_REQUEST, "SUBSCRIBE")])
@@ -498,7 +502,7 @@ def shown_by(given, request):
 
 
 class Fuzz(Cases):
-    """The cases, and how many inputs of each property passed and failed."""
+    """Runs the cases, and counts the inputs that pass and fail for each property."""
 
     def __init__(self, args):
         super().__init__(args.word)
@@ -507,12 +511,12 @@ class Fuzz(Cases):
         self.good, self.bad = Counter(), Counter()
 
     def try_one(self, name, draw, given, where):
-        """Tries an input; gives what shows a difference, nothing where there is none. What the property chooses is drawn by that text."""
+        """Tries an input. Returns the bytes that show a difference, or an empty list. `draw` seeds the choices of the property."""
         size = len(given.data) if given.kind == "request" else 1
         self.good[name] += size
         try:
             PROPERTIES[name][0](self.program, random.Random(draw), given)
-        except Exception as difference:  # one that this script did not expect is a difference too
+        except Exception as difference:  # An unexpected exception is a difference too.
             self.good[name] -= 1
             self.bad[name] += 1
             print(f"failed: {name}, {where}: {difference if isinstance(difference, Difference) else repr(difference)}"[:4000], flush=True)
@@ -520,7 +524,7 @@ class Fuzz(Cases):
         return []
 
     def try_seen(self):
-        """Each file of the folder, drawn as it was when it failed, and in a few other ways."""
+        """Tries each file of the folder seen, with the choices of its failure and with a few others."""
         for file in sorted(it for it in os.listdir(SEEN) if it != "README.md"):
             name, given, label = kept_in(file)
             names = dict.fromkeys([name, *(it for it in PROPERTIES if given.kind in PROPERTIES[it][1])])
@@ -531,7 +535,7 @@ class Fuzz(Cases):
                     return
 
     def try_case(self, case):
-        """The case of a number, which the seed and the number alone make."""
+        """Tries the case of this number. Only the seed and the number determine it."""
         name, label = ROUND[case % len(ROUND)], f"{self.args.seed}-{case}"
         if not self.is_chosen(name):
             return
@@ -541,13 +545,13 @@ class Fuzz(Cases):
             self.keep(kept_as(name, given.kind, known, f"{label}-{number}" if number else label), data)
 
     def keep(self, name, data):
-        """Tells the input of a case that failed, and writes it to files."""
-        print(f"its input: {data!r}"[:4000], flush=True)
+        """Prints the input of a case that failed, and writes it to files."""
+        print(f"  input:    {data!r}"[:4000], flush=True)
         for folder in [tempfile.mkdtemp(prefix="mesosev-fuzz-"), *([SEEN] if self.args.keep else [])]:
             path = os.path.join(folder, name)
             with open(path, "wb") as file:
                 file.write(data)
-            print(f"it is kept as {path}", flush=True)
+            print(f"  stored as {path}", flush=True)
 
     def run(self):
         if self.args.case is not None:
@@ -562,11 +566,11 @@ class Fuzz(Cases):
 
 
 def main():
-    words = parser(__doc__, "program", seconds=60.0, seed=1)
-    words.add_argument("--beside", metavar="OTHER")
-    words.add_argument("--case", type=int)
-    words.add_argument("--keep", action="store_true")
-    fuzz = Fuzz(words.parse_args())
+    made = parser(__doc__, "tests/fuzz/run.py $(tools/built checked) --seconds 10 -k relog", "program", seconds=60.0, seed=1)
+    made.add_argument("--beside", metavar="OTHER", help="a second program, which must have the same outputs and statuses (except serve)")
+    made.add_argument("--case", type=int, metavar="N", help="tries only the case of this number")
+    made.add_argument("--keep", action="store_true", help="also stores an input that fails in the folder seen")
+    fuzz = Fuzz(made.parse_args())
     fuzz.run()
     for name in PROPERTIES:
         print(f"{name}: {fuzz.good[name]} passed, {fuzz.bad[name]} failed")
