@@ -15,6 +15,7 @@ HELP = {
     "random": "the number of random lists",
     "seconds": "the time after which no new case starts",
     "seed": "the seed of the random inputs",
+    "together": "the number of cases that run at once",
 }
 END = """The last line is 'N passed, M failed'. The status is 0 if no case failed, 1 if a case failed or no
 case has WORD in its name, and 2 for a usage error.
