@@ -147,7 +147,7 @@ def busy(run):
         slowest = max(slowest, time.monotonic() - begun)
         expect("the statuses", 50 * ["202"], [flood.read_response().status for _ in range(50)])
     expect("the events", 3 * [{"type": "HEARTBEAT"}], [framework.stream.read_event(1) for _ in range(3)])
-    expect_within("the seconds of the slowest call", 0, 2, slowest)
+    expect_within("the seconds of the slowest call", 0, 5, slowest)
 
 
 @case("a client that sends 30,000 calls and half-closes, and reads late and slowly, gets all its responses")

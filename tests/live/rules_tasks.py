@@ -91,7 +91,7 @@ def offer_of_a_task_that_does_not_fit(run):
     status = framework.read_update("T1", "TASK_ERROR")
     if "uuid" in status:
         framework.acknowledge(status)
-    framework.read_offers("O1-2", limit=8)
+    framework.read_offers("O1-2", limit=20)
 
 
 @case("tasks on two offers of an agent may take what both have")
@@ -178,7 +178,7 @@ def one_of_two_is_not_outstanding(run):
     framework.do("ACCEPT", launch(["O1", "O9"], task("T1"), task("T2")))
     lost = [framework.next(), framework.next()]
     expect("the updates", [("T1", "TASK_LOST"), ("T2", "TASK_LOST")], sorted(states(lost)))
-    framework.read_offers("O1-2", limit=8)
+    framework.read_offers("O1-2", limit=20)
 
 
 @case("no task is launched twice: an ACCEPT of the same task on another offer does not start it again")
@@ -212,7 +212,7 @@ def offer_in_use(run):
     framework.expect_nothing(1.5)
     framework.do("KILL", {"task_id": named("T2")})
     framework.step("T2", "TASK_KILLED")
-    got = framework.read_offers("O1-2", limit=8)
+    got = framework.read_offers("O1-2", limit=20)
     expect("all of it", [offer("O1-2")], got)
 
 
@@ -325,11 +325,11 @@ def finish_after(run):
     framework.run_tasks(["O1"], task("T1"))
     running = time.monotonic()
     status = framework.read_update("T1", "TASK_FINISHED")
-    expect_within("the seconds from the launch", 2, 8, time.monotonic() - begun)
-    expect_within("the seconds from the acknowledgement", 1, 6, time.monotonic() - running)
+    expect_within("the seconds from the launch", 2, 15, time.monotonic() - begun)
+    expect_within("the seconds from the acknowledgement", 1, 12, time.monotonic() - running)
     expect("its uuid is there", True, bool(status.get("uuid")))
     framework.acknowledge(status)
-    framework.read_offers("O1-2", limit=8)
+    framework.read_offers("O1-2", limit=20)
 
 
 @case("--finish-after S: a task that was killed before does not finish")
@@ -357,7 +357,7 @@ def resend(run):
     first, begun = framework.read_update("T1", "TASK_STARTING"), time.monotonic()
     for _ in range(3):
         expect("the update", first, framework.read_update("T1", "TASK_STARTING"))
-    expect_within("the seconds of three", 2, 7, time.monotonic() - begun)
+    expect_within("the seconds of three", 2, 12, time.monotonic() - begun)
     framework.acknowledge(first)
     # One that was on its way may come before.
     while (status := framework.next()["update"]["status"]) == first:
@@ -374,7 +374,7 @@ def default_resend(run):
     _, framework = launched(run)
     first, begun = framework.read_update("T1", "TASK_STARTING"), time.monotonic()
     expect("the update", first, framework.read_update("T1", "TASK_STARTING"))
-    expect_within("the seconds", 9, 14, time.monotonic() - begun)
+    expect_within("the seconds", 9, 20, time.monotonic() - begun)
 
 
 @case("--resend 0: an update does not come again on its stream, but on the next one")

@@ -7,7 +7,7 @@ import time
 from collections import namedtuple
 
 # How long anything may take, in seconds. Other tests run beside it.
-LIMIT = 30
+LIMIT = 60
 PATH = "/api/v1/scheduler"
 # A status, the fields with their names in lower case, and the body.
 Response = namedtuple("Response", "status fields body")

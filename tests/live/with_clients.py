@@ -234,7 +234,7 @@ def with_mesos_go(run):
     with tempfile.TemporaryDirectory(prefix="mesosev-go-") as folder:
         environment = os.environ | {"GO111MODULE": "off", "GOPATH": GO_PATH, "GOFLAGS": "", "GOCACHE": os.path.join(folder, "cache")}
         built = os.path.join(folder, "scheduler")
-        ran = subprocess.run([go, "build", "-o", built, os.path.join(FOLDER, "scheduler.go")], env=environment, capture_output=True, timeout=300, check=False)
+        ran = subprocess.run([go, "build", "-o", built, os.path.join(FOLDER, "scheduler.go")], env=environment, capture_output=True, timeout=600, check=False)
         expect("the build", ("", 0), (ran.stderr.decode(), ran.returncode))
         out, err, status = run_words([built, f"http://127.0.0.1:{master.port}{PATH}"])
     expect("its errors and its status", ("", 0), (err, status))

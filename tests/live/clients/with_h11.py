@@ -15,8 +15,9 @@ class Connection:
     def send(self, call, *fields):
         body = json.dumps(call).encode()
         head = [("Host", "127.0.0.1"), ("Content-Type", "application/json"), ("Content-Length", str(len(body))), *fields]
-        for event in (h11.Request(method="POST", target=PATH, headers=head), h11.Data(data=body), h11.EndOfMessage()):
-            self.socket.sendall(self.http.send(event))
+        parts = h11.Request(method="POST", target=PATH, headers=head), h11.Data(data=body), h11.EndOfMessage()
+        # In one segment: of two, the second one would wait for an acknowledgement of the first by TCP.
+        self.socket.sendall(b"".join(self.http.send(part) for part in parts))
 
     def next(self):
         while (event := self.http.next_event()) is h11.NEED_DATA:
