@@ -3,17 +3,20 @@
 
 # The subcommands.
 _mesosev_commands() {
-  echo check show convert replay relog serve subscribe loopback help
+  echo check show convert replay relog serve master subscribe loopback help
 }
 
 # _mesosev_options COMMAND: prints its options, or without a command those of mesosev itself
 _mesosev_options() {
   case $1 in
-    check | show) echo --chunked --limit ;;
-    convert) echo --chunked --limit --most ;;
-    replay | relog) echo --limit ;;
+    check) echo --chunked --limit ;;
+    show) echo --chunked --limit --json ;;
+    convert) echo --chunked --limit --most --json ;;
+    replay) echo --limit --json ;;
+    relog) echo --limit ;;
     serve) echo --port --count --stream ;;
-    subscribe) echo --to --user --name --reads ;;
+    master) echo --port --heartbeat --resend --finish-after --seconds --most --once ;;
+    subscribe) echo --to --user --name --reads --json ;;
     loopback) echo --most ;;
   esac
   [ "$1" = help ] || echo -h --help -V --version
@@ -39,6 +42,7 @@ _mesosev() {
     *,'<') _mesosev_files '' && return ;;
     '<,'*) _mesosev_files "$word" && return ;;
     --limit,* | --most,* | --port,* | --count,* | --stream,*) return ;;
+    --heartbeat,* | --resend,* | --finish-after,* | --seconds,*) return ;;
     --to,* | --user,* | --name,* | --reads,* | =,* | *,=) return ;;
   esac
   command=$(_mesosev_command)

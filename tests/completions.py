@@ -94,7 +94,7 @@ class Tests(Cases):
         if command == "help":
             return [], []
         block = self.help(command).split("\nOptions:\n")[-1].split("\n\n")[0]
-        rows = re.findall(r"^ +(-\w)?(?:, | *)(--[a-z]+)(?: (<\w+>))?", block, re.MULTILINE)
+        rows = re.findall(r"^ +(-\w)?(?:, | *)(--[a-z-]+)(?: (<\w+>))?", block, re.MULTILINE)
         names = {name for row in rows for name in row[:2] if name}
         return sorted(names), sorted(row[1] for row in rows if row[2])
 

@@ -260,6 +260,58 @@ ERRORS = [
     ("relog", ("1\n2" + SESSION)[:72], "fault F10 EndsInsideRecord after 72\n"),
 ]
 
+# Arguments and input of JSON Lines, both outputs and the status.
+LINE = '{"type":"HEARTBEAT"}\n'
+JSON_LINES = [
+    *(
+        (f"{command} --json{more}", text, lines, "" if command == "convert" else f"events {count} bytes {len(text)}\n", 0)
+        for command in ("show", "convert")
+        for more, text, lines, count in [
+            ("", "", "", 0),
+            ("", BEAT, LINE, 1),
+            (" --limit=20", BEAT, LINE, 1),
+            # More than one read returns.
+            ("", 40 * BEAT, 40 * LINE, 40),
+            (" --chunked", BY_BYTES, LINE, 1),
+            (" --chunked --limit 20", BY_SEVEN, LINE, 1),
+            # The canonical text of each event: unknown members are dropped, and an array of offers is in an object.
+            ("", '26\n{"type":"HEARTBEAT","x":1}29\n{"type":"OFFERS","offers":[]}', LINE + '{"type":"OFFERS","offers":{}}\n', 2),
+            # A text with a LF is written on one line.
+            ("", record('{"type":"ERROR","error":\n{"message":"a\\nb\\u000a"}}'), '{"type":"ERROR","error":{"message":"a\\nb\\n"}}\n', 1),
+            ("", SUBSCRIBED, SUBSCRIBED[3:].replace(":15}", ":15.0}") + "\n", 1),
+        ]
+    ),
+    # The events before a fault are written; not so by `convert`.
+    ("show --json", "x", "", "fault F7 BadSizeLine after 1\n", 1),
+    ("show --json", BEAT + "2\n{}" + BEAT, LINE, "fault F12 Field record 2 type Missing after 27\n", 1),
+    ("show --json", BEAT + "20\n{", LINE, "fault F10 EndsInsideRecord after 27\n", 1),
+    ("show --chunked --json", "5\r\n20\n", "", "fault F6 EndsInsideChunks after 6\n", 1),
+    ("convert --json", BEAT + "2\n{}" + BEAT, "", "fault F12 Field record 2 type Missing after 27\n", 1),
+    # So are those before an event that has no canonical text.
+    ("show --json --limit 98", BEAT + SUBSCRIBED + BEAT, LINE, "encode failed event 2 TooLarge\n", 1),
+    ("show --json", 2 * BEAT + record(DEEP_OFFER) + "x", 2 * LINE, "encode failed event 3 TooDeep\n", 1),
+    ("convert --json --limit 98", BEAT + SUBSCRIBED, "", "encode failed event 2 TooLarge\n", 1),
+    ("convert --json", record(DEEP_OFFER), "", "encode failed event 1 TooDeep\n", 1),
+]
+
+# Arguments and input of `replay --json`, and both outputs and the status.
+NO_SESSION = '{"entries":%d,"framework":null,"connected":false,"offers":[],"unacknowledged":[]}\n'
+SESSION_START = '{"entries":%d,"framework":"F1","connected":true,'
+ONE_SESSION = SESSION_START + '"offers":[],"unacknowledged":[]}\n'
+OFFER = '{"id":{"value":"O1"},"framework_id":{"value":"F1"},"agent_id":{"value":"A1"},"hostname":"h","resources":[{"name":"cpus","type":"SCALAR","scalar":{"value":1.0}}]}'
+ODD_KEY = r'{"agent_id":"A1","task_id":"a\"b","uuid":"AAEC"}'
+JSON_SESSIONS = [
+    ("replay --json", "", NO_SESSION % 0, "", 0),
+    ("replay --json", SESSION, ONE_SESSION % 1, "", 0),
+    ("replay --limit 67 --json", SESSION, ONE_SESSION % 1, "", 0),
+    ("replay --json", "1\n2" + BREAK, NO_SESSION % 1, "", 0),
+    ("replay --json", ONE_OFFER, SESSION_START % 2 + f'"offers":[{OFFER}],"unacknowledged":[]}}\n', "", 0),
+    ("replay --json", SESSION + ODD_UPDATE, SESSION_START % 2 + f'"offers":[],"unacknowledged":[{ODD_KEY}]}}\n', "", 0),
+    ("replay --json", "1\nX", "", "fault F16 BadEntry record 1 after 3\n", 1),
+    ("replay --json", REVIVE, "", "refused S1 NotSubscribed record 1\n", 1),
+    ("replay --json", ONE_OFFER + TOO_LARGE, "", "refused S6 Exceeds record 3 task 0 resource 0\n", 1),
+]
+
 # Usage errors: status 2, and a text on standard error only.
 USAGE_ERRORS = [
     "check --limit 0",
@@ -273,6 +325,11 @@ USAGE_ERRORS = [
     "check --most 1",
     "show --limit 0",
     "show --most 1",
+    "show --json --json",
+    "show --json=1",
+    "check --json",
+    "relog --json",
+    "loopback --json",
     "convert --most 0",
     "convert --most 16777217",
     "convert --most x",
@@ -304,6 +361,8 @@ BAD_VALUES = [
     ("serve --port 5050 --count 1 --stream {00000000000040008000000000000001}", "bad value --stream\n"),
     ("subscribe --to= --user u --name n", "bad value --to\n"),
     (f"subscribe --to {256 * 'a'} --user u --name n", "bad value --to\n"),
+    ("convert --json --most 1", "bad value --json\n"),
+    ("convert --most=4096 --chunked --json", "bad value --json\n"),
 ]
 
 # Arguments that print help or the version, and a part of that text: status 0, on standard output only.
@@ -317,6 +376,9 @@ HELP = [
     ("convert --version", "mesosev-convert 0.1.0\n"),
     ("check --help", "--limit <N>"),
     ("show --help", "--limit <N>"),
+    ("show --help", "--json "),
+    ("convert --help", "--json "),
+    ("subscribe --help", "--json "),
     # The help of each command that reads one file says how to pass it.
     ("--help", "< FILE"),
     ("check --help", "< FILE"),
@@ -325,6 +387,7 @@ HELP = [
     ("replay --help", "< FILE"),
     ("relog --help", "< FILE"),
     ("replay --help", "--limit <N>"),
+    ("replay --help", "--json "),
     ("relog --help", "--limit <N>"),
     ("serve --help", "--stream <UUID>"),
     ("subscribe --help", "[default: 1000000]"),
@@ -344,8 +407,11 @@ FOLDER = [
     ("check", ("fault F14 Read after 0\n", "", 1)),
     ("check --chunked", ("fault F14 Read after 0\n", "", 1)),
     ("show", ("fault F14 Read after 0\n", "", 1)),
+    ("show --json", ("", "fault F14 Read after 0\n", 1)),
+    ("convert --json", ("", "fault F14 Read after 0\n", 1)),
     ("convert", ("", "fault F14 Read after 0\n", 1)),
     ("replay", ("fault F14 Read after 0\n", "", 1)),
+    ("replay --json", ("", "fault F14 Read after 0\n", 1)),
     ("relog", ("", "fault F14 Read after 0\n", 1)),
     ("loopback", ("fault F14 Read after 0\n", "", 1)),
     ("serve --port 1 --count 1", ("fault F14 Read after 0\n", "", 1)),
@@ -354,11 +420,11 @@ FOLDER = [
 # Arguments and input whose output fails before its first byte: status 1, with a line on standard error. If the
 # output is a pipe that has no reader, PRINTING writes no such line.
 PRINTING = [
-    *((args, 400 * BEAT) for args in ("check", "check --chunked", "show", "loopback", "--help", "show --help", "--version", "check -V")),
+    *((args, 400 * BEAT) for args in ("check", "check --chunked", "show", "show --json", "loopback", "--help", "show --help", "--version", "check -V")),
     ("replay", SESSION),
 ]
 WRITING = [
-    *((args, 400 * BEAT) for args in ("convert", "convert --most 1", "convert --most 16777216")),
+    *((args, 400 * BEAT) for args in ("convert", "convert --json", "convert --most 1", "convert --most 16777216")),
     ("relog", SESSION),
 ]
 
@@ -371,7 +437,11 @@ LONG = [
     ("show", record('{"type":"ERROR","error":{"message":"%s"}}' % ("m" * 100000)), '1 ERROR "%s"\nevents 1 bytes 100046\n' % ("m" * 100000)),
     # Lines that fit into the buffer alone, but not together.
     ("show", record('{"type":"ERROR","error":{"message":"%s"}}' % ("m" * 65500)) + 3 * BEAT, '1 ERROR "%s"\n%sevents 4 bytes 65614\n' % ("m" * 65500, BEATS[12:48])),
+    ("show --json", 10000 * BEAT, 10000 * LINE),
+    ("show --json", record('{"type":"ERROR","error":{"message":"%s"}}' % ("m" * 100000)), '{"type":"ERROR","error":{"message":"%s"}}\n' % ("m" * 100000)),
+    ("show --json", record('{"type":"ERROR","error":{"message":"%s"}}' % ("m" * 65490)) + 3 * BEAT, '{"type":"ERROR","error":{"message":"%s"}}\n' % ("m" * 65490) + 3 * LINE),
     ("convert", 10000 * BEAT, 10000 * BEAT),
+    ("convert --json", 10000 * BEAT, 10000 * LINE),
     ("convert --most 1", 500 * BEAT, "".join(f"1\r\n{byte}\r\n" for byte in 500 * BEAT) + "0\r\n\r\n"),
     ("replay", SESSION + ODD_UPDATE, 'entries 2\nframework "F1"\nowed "A1" "a\\"b" hex:000102\n'),
     ("relog", SESSION + 2000 * REVIVE, "1\n2" + SESSION + 2000 * REVIVE),
@@ -510,6 +580,8 @@ class Tests(Cases):
             self.stream(args, text, (out, "", 1))
         for args, text, err in ERRORS:
             self.stream(args, text, ("", err, 1))
+        for args, text, out, err, status in JSON_LINES + JSON_SESSIONS:
+            self.stream(args, text, (out, err, status))
         for args in USAGE_ERRORS:
             self.expect_of(f"usage error: {args}", ("", "error: ", 2, 0), self.usage_error, args)
         for args, line in BAD_VALUES:
@@ -523,6 +595,7 @@ class Tests(Cases):
         self.failed_outputs()
         # An event is printed once the last byte of its record was read.
         self.expect_of("events are printed at once", "1 HEARTBEAT\n2 HEARTBEAT\n", self.at_once, "show", BEAT + BEAT + "20\n{")
+        self.expect_of("JSON Lines are written at once", 2 * LINE, self.at_once, "show --json", BEAT + BEAT + "20\n{")
 
     def failed_outputs(self):
         failed = ("write failed after 0\n", 1)
@@ -533,7 +606,8 @@ class Tests(Cases):
             self.expect_of(f"output has no reader: {args}", expected, lambda: self.to_no_reader(args, text)[:2])
         self.expect_of("output is a full pipe: check", failed, self.to_filled, "check", BEAT)
         # After the write fails, nothing more is read.
-        self.expect_of("output has no reader: long input", ("", 1, READ_AHEAD), self.to_no_reader, "show", 10000 * BEAT)
+        for args in ("show", "show --json"):
+            self.expect_of(f"output has no reader: long input of {args}", ("", 1, READ_AHEAD), self.to_no_reader, args, 10000 * BEAT)
         for args, text, lines in LONG:
             self.cut_outputs(args, text, lines)
         self.expect_of("output is full: usage error", (b"", 1), self.usage_error_to_full)

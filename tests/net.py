@@ -410,6 +410,24 @@ class Tests(Cases):
         self.expect("a record larger than the default limit", ("fault F9 RecordTooLarge after 11\n", "", 1), got)
         self.expect("--reads 0", ("fault F15 ReadsSpent after 0\n", "", 1), self.subscribe([(head + body).encode()], ["--reads", "0"])[0])
 
+    def json_lines(self):
+        """Subscribes with --json: the events are on standard output, all other lines on standard error."""
+        head = "HTTP/1.1 200 OK\r\nContent-Type: application/json\r\nTransfer-Encoding: chunked\r\nMesos-Stream-Id: s1\r\n\r\n"
+        body = chunked(SUBSCRIBED + BEAT, 50)
+        first, beat = SUBSCRIBED[4:] + "\n", BEAT[3:] + "\n"
+        for title, pieces in [("one piece", [head + body]), ("a byte a segment", head + body)]:
+            got = self.subscribe([piece.encode() for piece in pieces], ["--json"])[0]
+            self.expect(f"--json, a response in {title}", (first + beat, f"events 2 bytes {len(body)}\n", 0), got)
+        for title, text, out, err in [
+            ("--json, a refused head", head.replace("200 OK", "403 Forbidden"), "", "refused H4 Status 403\n"),
+            ("--json, a head that is cut", head[:-1], "", "refused H3 BadHead\n"),
+            ("--json, a body that is cut", head + body[:-1], first + beat, f"fault F6 EndsInsideChunks after {len(body) - 1}\n"),
+            ("--json, an event without canonical text", head + chunked(BEAT + record(DEEP) + BEAT, 4096), beat, "encode failed event 2 TooDeep\n"),
+        ]:
+            self.expect(title, (out, err, 1), self.subscribe([text.encode()], ["--json"])[0])
+        got = self.run(["subscribe", "--to", f"127.0.0.1:{free_port()}", "--user", "u", "--name", "n", "--json"])
+        self.expect("--json, a port without a server", ("", "net connect failed\n", 1), got)
+
     def cut_responses(self):
         """Subscribes to servers that close after each byte of the head and of the first records."""
         head = f"HTTP/1.1 200 OK\r\nContent-Type: application/json\r\nTransfer-Encoding: chunked\r\nMesos-Stream-Id: s1\r\n\r\n"
@@ -508,7 +526,7 @@ def main():
     tests.run_chosen(
         tests.calls, tests.requests, tests.large_bodies, tests.cuts, tests.bad_clients, tests.resets, tests.resets_in_the_queue,
         tests.turns, tests.unprintable, tests.streams, tests.unwritable, tests.faults, tests.loopback,
-        tests.heads, tests.cut_responses, tests.closed_streams, tests.circle, tests.curl,
+        tests.heads, tests.json_lines, tests.cut_responses, tests.closed_streams, tests.circle, tests.curl,
         errors=(OSError, subprocess.TimeoutExpired, IndexError, TypeError),
     )
     return tests.end()

@@ -191,6 +191,8 @@ LOGS = {
 # The name of an input, the arguments, and the input.
 CASES = [
     *((name, [command], data) for command in ("check", "show", "convert", "loopback") for name, data in STREAMS.items()),
+    *((name, [command, "--json"], data) for command in ("show", "convert") for name, data in STREAMS.items()),
+    *((name, ["replay", "--json"], data) for name, data in LOGS.items()),
     *((name, [command], data) for command in ("replay", "relog") for name, data in LOGS.items()),
     ("many events", ["replay"], MANY_EVENTS_LOG),
     ("a fault", ["check"], b"2\n{}"),
@@ -347,8 +349,30 @@ def is_replayed(events, size, ample, got, _=False):
     return status == 1 and err == b"" and (ends_in_no_memory(out, b"", size) or (found is not None and 1 <= int(found[1]) <= events))
 
 
+def is_exported(size, ample, got, _=False):
+    """Returns whether the output of `show --json` is right: first lines of the ample run, and fault F13 on standard
+    error."""
+    if got == ample or is_whole(size, ample, got):
+        return True
+    status, out, err = got
+    return status == 1 and out[-1:] in (b"", b"\n") and ample[1].startswith(out) and ends_in_no_memory(err, b"", size)
+
+
+def is_replayed_json(events, size, ample, got, _=False):
+    """Returns whether the output of `replay --json` is right: the session, or an error like that of `replay` on
+    standard error."""
+    if got == ample or is_whole(size, ample, got):
+        return True
+    status, out, err = got
+    return out == b"" and is_replayed(events, size, ample, (status, err, b""))
+
+
 def predicate_of(args, data):
     """Returns the function that decides whether a run with these arguments on these bytes is right."""
+    if args[:2] == ["replay", "--json"]:
+        return functools.partial(is_replayed_json, data.count(b"\nE"), len(data))
+    if args[:2] == ["show", "--json"]:
+        return functools.partial(is_exported, len(data))
     if args[0] == "replay":
         return functools.partial(is_replayed, data.count(b"\nE"), len(data))
     return functools.partial(is_whole if args[0] in ("convert", "relog") else is_front, len(data))

@@ -13,8 +13,8 @@ import time
 
 TOP = os.path.dirname(os.path.dirname(os.path.realpath(__file__)))
 DEFAULT = "/opt/rattle/bin/rt"
-# The toolchain with which this commit was proved. README.md has it in its last line.
-PROVED_WITH = "rattle-kit-13f logic dac8208d650f15bf"
+# The toolchains with which the program of this commit, or an earlier commit, was proved. README.md ends with them.
+PROVED_WITH = ("rattle-kit-13b logic dac8208d650f15bf", "rattle-kit-13f logic dac8208d650f15bf")
 
 
 def command():
@@ -46,10 +46,10 @@ def version():
 
 
 def unknown_kit():
-    """Returns a note on a toolchain other than that of this commit, else an empty text."""
-    if version() == PROVED_WITH:
+    """Returns a note on a toolchain with which this commit was not proved, else an empty text."""
+    if version() in PROVED_WITH:
         return ""
-    return f"this toolchain is {version()}; the commit was proved with {PROVED_WITH}"
+    return f"this toolchain is {version()}; the commit was proved with {' or '.join(PROVED_WITH)}"
 
 
 def module(name, file):

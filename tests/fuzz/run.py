@@ -9,6 +9,8 @@ The same seed gives the same inputs in the same order. The properties are:
                          stream has all its events
   convert twice          the output of convert has the same events, and is its own conversion,
                          plain and in chunks
+  JSON Lines             show --json and convert --json write the texts of convert, each a JSON
+                         text, and the line that show or convert ends with
   relog twice            the same for relog; a log and its relog are replayed to the same lines
   requests               serve responds or closes, prints a line per connection, and goes on
   responses              subscribe rejects the same heads as heads.py, and prints the same
@@ -24,6 +26,7 @@ script are tried first; its README.md describes their names. A case is an input.
 name is that of the property.
 """
 import itertools
+import json
 import os
 import random
 import re
@@ -92,6 +95,7 @@ HEADS = r"refused (?:H2 HeadTooLong|H3 BadHead|H4 Status N|H5 NotChunked|H6 NotJ
 # error, and a usage error.
 GOOD_END, BAD_END = form(r"events N bytes N\n"), form(FAULT + "|" + REFUSED + "|" + HEADS + r"|net write failed\n")
 REPORT = form(r"entries N\nframework (?:-|TEXT)\n(?:hand TEXT\n)*(?:owed TEXT TEXT UUID\n)*")
+JSON_ENDS = GOOD_END, form(FAULT + r"|encode failed event N (?:TooDeep|TooLarge)\n")
 ERROR_LINE, USAGE_ERROR = form(FAULT + r"|encode failed event N (?:TooDeep|TooLarge)\n"), re.compile(rb"error: .+\n", re.DOTALL)
 EVENT = form(
     r"N (?:SUBSCRIBED TEXT (?:-|N\.[0-9]{1,6})|OFFERS (N)|RESCIND TEXT|UPDATE TEXT TASK_[A-Z_]+ (?:-|UUID)|MESSAGE TEXT TEXT N"
@@ -108,6 +112,8 @@ def expect_form(args, ran, bad):
     """Checks that the status and both outputs have a documented form; for `bad` arguments, that of a usage error."""
     if bad:
         good = ran.status == 2 and not ran.out and USAGE_ERROR.fullmatch(ran.err)
+    elif args[:2] == ["show", "--json"]:
+        good = ran.status in (0, 1) and JSON_ENDS[ran.status].fullmatch(ran.err) and ran.out[-1:] in (b"", b"\n")
     elif args[0] in ("convert", "relog"):
         good = ran.err == b"" if ran.status == 0 else ran.status == 1 and not ran.out and ERROR_LINE.fullmatch(ran.err)
     else:
@@ -300,6 +306,33 @@ def convert_twice(program, pick, given):
     expect(f"convert of the output of convert {most}", first, program.run(["convert", "--chunked", *limit], body.out))
 
 
+def records_of(body):
+    """Yields the records of plain RecordIO."""
+    while body:
+        size, body = body.split(b"\n", 1)
+        yield body[: int(size)]
+        body = body[int(size) :]
+
+
+def json_lines(program, pick, given):
+    args = framing(given) + limits(pick)
+    shown, lines = program.run(["show", *args], given.data), program.run(["show", "--json", *args], given.data)
+    first, whole = program.run(["convert", *args], given.data), program.run(["convert", "--json", *args], given.data)
+    events = lines.out.splitlines(keepends=True)
+    for line in events:
+        json.loads(line)
+    if first.status == 0:
+        expect("the lines of show --json", list(records_of(first.out)), [line[:-1] for line in events])
+        expect("the output of convert --json", Ran(lines.out, b"", 0), whole)
+    else:
+        expect("the error of convert --json", first, whole)
+    if lines.err.startswith(b"encode failed"):
+        expect("the events before one without canonical text", int(lines.err.split()[3]) - 1, len(events))
+    else:
+        expect("the last line of show --json", Ran(last_line(shown.out), b"", shown.status), Ran(lines.err, b"", lines.status))
+        expect("the number of lines of show --json", count_shown(shown.out), len(events))
+
+
 def relog_twice(program, pick, given):
     limit = limits(pick)
     replayed, first = program.run(["replay", *limit], given.data), program.run(["relog", *limit], given.data)
@@ -468,6 +501,7 @@ PROPERTIES = {
     "whole against pieces": (whole_against_pieces, ["stream", "chunked", "log"], 3),
     "show against check": (show_against_check, ["stream", "chunked"], 6),
     "convert twice": (convert_twice, ["stream", "chunked"], 4),
+    "JSON Lines": (json_lines, ["stream", "chunked"], 4),
     "relog twice": (relog_twice, ["log"], 4),
     "requests": (serve_requests, ["request"], 1),
     "responses": (responses, ["response"], 6),

@@ -202,6 +202,25 @@ def reader_that_stops(run):
     expect("no line is cut", [], [line for line in lines if line != "403 REVIVE" and "dropped" not in line])
 
 
+@case("a terminal that is not read does not stop the connections")
+def terminal_that_is_not_read(run):
+    reader, writer = os.openpty()
+    running = subprocess.Popen([run.program, "master", "--port", "0"], stdin=subprocess.DEVNULL, stdout=writer)
+    try:
+        os.close(writer)
+        line = b""
+        while not line.endswith(b"\n"):
+            line += os.read(reader, 1)
+        connection, batch = Connection(int(re.search(rb":(\d+)", line)[1])), 200
+        for _ in range(0, 20_000, batch):
+            connection.send(batch * REVIVE)
+            expect("the statuses", batch * ["403"], [connection.read_response().status for _ in range(batch)])
+    finally:
+        running.kill()
+        running.wait()
+        os.close(reader)
+
+
 @case("a reader of the lines that has gone does not stop the connections")
 def reader_that_has_gone(run):
     master = run.master(is_read=False)

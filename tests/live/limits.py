@@ -118,6 +118,53 @@ def too_much_waits(run):
     expect_within("the bytes of it that came, in MiB", 0, 80, len(came) / MIB)
 
 
+@case("100 MB that came before the SUBSCRIBE arrive whole if the stream is read, whatever the limit for unread bytes is")
+def much_before_subscribe(run):
+    master, framework = run.framework(events=100 * LARGE + offers(offer("O1")))
+    framework.read_offers("O1")
+    for number in range(100):
+        expect(f"the type of event {number}", "ERROR", framework.next()["type"])
+        expect_within("the memory that is used, in MiB", 0, 180, master.memory() / 1024)
+    framework.do("REVIVE")
+
+
+@case("events of the input that come while earlier ones wait are sent after them, and none is lost")
+def later_than_waiting(run):
+    master = run.master(stdin="pipe", events=100 * LARGE)
+    framework = Framework(master.port)
+    master.feed(records(event("ERROR", message="last")))
+    expect("the event after SUBSCRIBED", {"type": "HEARTBEAT"}, framework.stream.read_event())
+    for number in range(100):
+        expect(f"the type of event {number}", "ERROR", framework.next()["type"])
+    expect("the last event", "last", framework.next()["error"]["message"])
+
+
+@case("a fault of the input ends the run after the events that wait were sent")
+def waiting_at_a_fault(run):
+    # What waits is written for up to 1 second.
+    master = run.master(stdin="pipe", events=6 * LARGE)
+    framework = Framework(master.port)
+    master.feed("x")
+    expect("the event after SUBSCRIBED", {"type": "HEARTBEAT"}, framework.stream.read_event())
+    for number in range(6):
+        expect(f"the type of event {number}", "ERROR", framework.next()["type"])
+    expect("the exit status", 1, master.wait())
+
+
+@case("a stream that was replaced while nobody read it frees its place after 10 seconds")
+def unread_replaced_stream(run):
+    master = run.master(events=20 * LARGE)
+    first = Framework(master.port, most=4096)
+    second = Framework(master.port)
+    held = master.open_files()
+    time.sleep(8)
+    expect("the open files after 8 s", held, master.open_files())
+    time.sleep(4)
+    expect("the open files after 12 s", held - 1, master.open_files())
+    second.do("REVIVE")
+    first.stream.close()
+
+
 @case("a client that does not read the responses to its calls costs the others nothing")
 def unread_responses(run):
     master, framework = run.framework()

@@ -1,5 +1,6 @@
 """Cases of tasks: ACCEPT, updates and their acknowledgement, KILL, RECONCILE, --finish-after, --resend; MESSAGE and SHUTDOWN."""
 import base64
+import random
 import time
 
 from messages import amount, launch, message, named, offer, offers, states, task
@@ -81,6 +82,34 @@ def some_that_fit(run):
     framework.do("ACCEPT", launch(["O1"], task("T1", 0.6), task("T2", 0.401), task("T3", 0.4)))
     updates = [framework.next() for _ in range(3)]
     expect("the updates", [("T1", "TASK_STARTING"), ("T2", "TASK_ERROR"), ("T3", "TASK_STARTING")], sorted(states(updates)))
+
+
+def expect_fitting(run, amounts):
+    """Launches a task for each of these thousandths of a cpu on an offer of 100 cpus. Each task fits that has enough left of it, in order."""
+    _, framework = run.framework(events=offers(offer("O1", cpus=100.0, mem=1e6)))
+    framework.read_offers("O1")
+    left, wanted = 100_000, []
+    for number, it in enumerate(amounts):
+        wanted.append((f"T{number}", "TASK_STARTING" if it <= left else "TASK_ERROR"))
+        left -= it if it <= left else 0
+    begun = time.monotonic()
+    framework.do("ACCEPT", launch(["O1"], *(task(f"T{number}", it / 1000) for number, it in enumerate(amounts))))
+    took = time.monotonic() - begun
+    got = [framework.next() for _ in amounts]
+    expect("the updates", sorted(wanted), sorted(states(got)))
+    return took
+
+
+@case("of many tasks of an ACCEPT exactly those fit that have enough left after those before them")
+def many_that_fit_in_part(run):
+    seeded = random.Random(7)
+    for least, most in ((1, 400), (50, 50), (100, 2000), (40_000, 60_000)):
+        expect_fitting(run, [seeded.randint(least, most) for _ in range(600)])
+
+
+@case("an ACCEPT of 3,000 tasks of which the last does not fit takes less than 5 seconds")
+def large_accept_with_a_misfit(run):
+    expect_within("the seconds", 0, 5, expect_fitting(run, 2999 * [30] + [900_000]))
 
 
 @case("an offer whose tasks did not fit is offered again")

@@ -136,6 +136,10 @@ class Master:
         with open(f"/proc/{self.running.pid}/status", encoding="ascii") as file:
             return int(re.search(r"^VmRSS:\s+(\d+)", file.read(), re.MULTILINE)[1])
 
+    def open_files(self):
+        """Returns the number of open files, sockets among them."""
+        return len(os.listdir(f"/proc/{self.running.pid}/fd"))
+
     def wait(self, limit=LIMIT):
         """Returns the exit status, once it ends."""
         try:

@@ -250,24 +250,13 @@ def expect_go_lines(lines):
     expect("the last lines", ["stream ended: <nil>", "end: <nil>"], lines[-2:])
 
 
-@case("the scheduler of examples/scheduler_loop.py runs a task on each offer, and ends with its stream")
+@case("the scheduler of examples/scheduler_loop.py runs a task on the first offer, and ends with its stream")
 def with_the_example(run):
     with open(os.path.join(TOP, "examples/offers.recordio"), encoding="ascii") as file:
-        master = run.master("--finish-after", "3", events=file.read())
-    words = [sys.executable, os.path.join(TOP, "examples/scheduler_loop.py"), str(master.port)]
-    running = subprocess.Popen(words, stdin=subprocess.DEVNULL, stdout=subprocess.PIPE, stderr=subprocess.PIPE)
-    try:
-        # Two tasks have started, run and finished, and two more have started and run. Then nothing comes for 3 seconds.
-        until = time.monotonic() + LIMIT
-        while master.lines.count("202 ACKNOWLEDGE") < 10 and time.monotonic() < until:
-            time.sleep(0.02)
-        stream = re.search(r"stream (\S+) opened", "\n".join(master.lines))[1]
-        expect("a TEARDOWN", "202", master.ask(request(call("TEARDOWN"), stream)))
-        out, err = running.communicate(timeout=LIMIT)
-    finally:
-        running.kill()
-    expect("its errors and its status", ("", 0), (err.decode(), running.returncode))
-    for name in ("O1", "O2"):
-        got = [line for line in out.decode().splitlines() if line.split()[1].split("-")[0] == name]
-        wanted = [f"on {name} TASK_{state}" for state in ("STARTING", "RUNNING", "FINISHED")]
-        expect(f"the lines of {name}", wanted + [f"on {name}-2 TASK_STARTING", f"on {name}-2 TASK_RUNNING"], got)
+        master = run.master("--once", events=file.read())
+    got = run_words([sys.executable, os.path.join(TOP, "examples/scheduler_loop.py"), f"127.0.0.1:{master.port}"])
+    expect("what it prints, its errors and its status", ("task-O1 TASK_STARTING\ntask-O1 TASK_RUNNING\n", "", 0), got)
+    expect("the exit status of the master", 0, master.wait(15))
+    calls = ["200 SUBSCRIBE", "202 ACCEPT", "202 DECLINE", "202 ACKNOWLEDGE", "202 ACKNOWLEDGE", "202 TEARDOWN"]
+    expect("the last line comes", True, master.wait_for_line(lambda line: line.endswith(" ended teardown"), 10))
+    expect("the calls", calls, [line for line in master.lines if re.match(r"\d", line)])

@@ -11,8 +11,8 @@
 //!     live.wrote(count);
 //!
 //! The test master changes only by calls and events of `mes_double_master`, and launches only tasks
-//! that fit; `live_laws` proves what follows from that. Times are in milliseconds. No subcommand
-//! uses the crate yet.
+//! that fit; `live_laws` proves what follows from that. Times are in milliseconds. The crate
+//! `mesosev_live` serves it over sockets.
 
 mod fault;
 mod live;

@@ -22,8 +22,12 @@ use mes_model::{Offer, TaskStatus};
 use mes_model_schema::List;
 use mes_msg::Event;
 use std::alloc::Global;
+use std::collections::VecDeque;
 use std::marker::Model;
 use std::slice;
+
+/// The number of pending bytes of a stream above which events that wait for it go on waiting: 1 MiB.
+pub(crate) const MAX_AHEAD: usize = 1_048_576;
 
 /// A live test master: a test master with its cluster, and the current stream. Times are in
 /// milliseconds. In contracts its value is `LiveState`.
@@ -37,8 +41,8 @@ pub struct Live {
     sent: SentUpdates,
     /// The body of the current stream; empty without one.
     out: StreamBody,
-    /// The events from outside that wait for the next stream.
-    waiting: Vec<Event>,
+    /// The events from outside that came without a stream, and are not sent yet.
+    waiting: VecDeque<Event>,
     /// The latest time that was passed.
     time: u64,
     /// The time of the next HEARTBEAT on the current stream.
@@ -72,7 +76,7 @@ impl Live {
             cluster: Cluster::new(alloc, settings.finish_after),
             sent: SentUpdates::new(alloc),
             out: StreamBody::new(alloc, settings.most),
-            waiting: Vec::new(alloc),
+            waiting: VecDeque::new(alloc),
             time: 0,
             beats_at: 0,
         }
@@ -130,14 +134,15 @@ impl Live {
         self.out.clear();
     }
 
-    /// Ends the current stream by its last chunk, and returns what is not written of it, or `None`
-    /// without a stream. Otherwise it is like [`Live::broken`].
+    /// Ends the current stream by the events that wait for it and its last chunk, and returns what is
+    /// not written of it, or `None` without a stream. Otherwise it is like [`Live::broken`].
     pub fn stop(&mut self) -> Result<Option<EndedStream>, LiveFault>
         ensures { Moves self.old.master self.new.master }
     {
         let Some(id) = self.current() else {
             return Ok(None);
         };
+        self.deliver_waiting(usize::MAX)?;
         self.break_stream();
         Ok(Some(self.end_stream(id)?))
     }
@@ -158,8 +163,8 @@ impl Live {
         Ok(EndedStream { id, rest })
     }
 
-    /// Notes the time. A HEARTBEAT, updates and offers that are due are sent on the current stream.
-    /// A time before the latest one counts as that one.
+    /// Notes the time. Events that wait for the stream are sent if few bytes are pending; and so are
+    /// a HEARTBEAT, updates and offers that are due. A time before the latest one counts as that one.
     pub fn passed(&mut self, now: u64) -> Result<(), LiveFault>
         // The test master changes only by its own deeds, and what these launch fits.
         ensures { Moves self.old.master self.new.master }
@@ -168,6 +173,7 @@ impl Live {
         if !self.has_stream() {
             return Ok(());
         }
+        self.deliver_waiting(MAX_AHEAD)?;
         self.beat_due()?;
         self.resend_due()?;
         self.send_due()
@@ -194,6 +200,9 @@ impl Live {
     /// stream.
     pub fn first_due(&self) -> Option<u64> {
         self.master.stream()?;
+        if !self.waiting.is_empty() && self.out.pending().len() <= MAX_AHEAD {
+            return Some(self.time);
+        }
         let first = match self.cluster.first_due() {
             Some(due) => due.min(self.beats_at),
             None => self.beats_at,

@@ -1,5 +1,5 @@
 //! The response of a live test master to a call.
-ghost use Rattle.std.specs.Prelude.{◌≡◌};
+ghost use Rattle.std.specs.Prelude.{◌≡◌, None as none, IsNone};
 
 use http::StatusCode;
 use mes_double_http::StreamId;
@@ -27,7 +27,9 @@ pub struct EndedStream {
 impl Reply {
     /// Returns a response that neither opens nor ends a stream.
     pub fn plain(status: StatusCode) -> Reply
-        ensures { result.status ≡ status }
+        ensures status { result.status ≡ status }
+        ensures opened { result.opened ≡ none }
+        ensures ended { IsNone result.ended }
     {
         Reply {
             status,

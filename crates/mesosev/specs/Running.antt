@@ -1,5 +1,5 @@
 -- The effect of the command: its arguments, its input and its outputs.
-use Rattle.std.specs.Prelude.{◌≡◌, ◌⊎◌, ℕ, Bool, List, []}
+use Rattle.std.specs.Prelude.{◌≡◌, ◌⊎◌, ℕ, Bool, true, false, List, []}
 use Rattle.clap.specs.Words.{Text, IsAmong, fault_of, kind_of}
 use Rattle.clap.specs.declared.error.Error.{Error}
 use Rattle.mesosev_stream.specs.Converting.{Converts}
@@ -7,8 +7,11 @@ use Rattle.mes_frame.specs.Devices.{Device}
 use Rattle.mesosev_net.specs.Looped.{Loops}
 use Rattle.mesosev_net.specs.ServedTurns.{Serves}
 use Rattle.mesosev_net.specs.Subscribed.{Subscribes}
+use Rattle.mesosev_live.specs.Stops.{EndsRun}
+use Rattle.mesosev_net.specs.SubscribedJson.{SubscribesJson}
 use Rattle.mesosev_log.specs.Relogging.{Relogs}
-use Rattle.mesosev_log.specs.Replaying.{Replays}
+use Rattle.mesosev_log.specs.Replaying.{Replays, ReplaysJson}
+use Rattle.mesosev_stream.specs.JsonLines.{Exports}
 use Rattle.mesosev_stream.specs.Printing.{Prints, Checks, Finishes, LacksMemory}
 use Rattle.mesosev_stream.specs.Showing.{Shows}
 use Rattle.mesosev_stream.specs.declared.exit_status.ExitStatus.{ExitStatus}
@@ -20,7 +23,7 @@ use Rattle.mesosev_args.specs.CommandLine.{command_app}
 use Rattle.mesosev_args.specs.NamedOptions.{IsInRange, LackValue, NameOptions, NameNoOptions}
 use Rattle.mesosev.specs.Reporting.{ReportsError, bad_value_line}
 use Rattle.mesosev_args.specs.declared.args.Options.{Options}
-use Rattle.mesosev_args.specs.declared.args.Options.TheVariants.{Check, Show, Convert, Replay, Relog, Serve, Subscribe, Loopback}
+use Rattle.mesosev_args.specs.declared.args.Options.TheVariants.{Check, Show, Convert, Replay, Relog, Serve, Master, Subscribe, Loopback}
 
 -- the number of an exit status: 0 without an error, 1 for an error, 2 for a usage error
 abbrev pub status_number : ExitStatus → ℕ
@@ -28,18 +31,25 @@ status_number exit.Success = 0
 status_number exit.Fault = 1
 status_number exit.Usage = 2
 
--- the subcommand was performed with its options; only `convert` and `relog` write to standard error
+-- The subcommand was performed with its options; only `convert`, `relog` and the forms with `--json`
+-- write to standard error. What `master` reads and prints depends on its sockets: see `serve_desk`
+-- and `connection_laws` of `mesosev_live`.
 abbrev pub Performs : Options → Device → Device → Device → Device → Device → Device → RunOutcome → Type 0
 Performs (Check framing limit) input rest out printed err reported ended = Checks framing limit MAX_READS input rest out printed ended × (reported ≡ err)
-Performs (Show framing limit) input rest out printed err reported ended = Shows framing limit MAX_READS input rest out printed ended × (reported ≡ err)
-Performs (Convert framing limit most) input rest out printed err reported ended =
-    (status : ExitStatus) × Converts framing limit most input rest out printed err reported status × (ended ≡ Status status)
-Performs (Replay limit) input rest out printed err reported ended = Replays limit input rest out printed ended × (reported ≡ err)
+Performs (Show framing limit false) input rest out printed err reported ended = Shows framing limit MAX_READS input rest out printed ended × (reported ≡ err)
+Performs (Show framing limit true) input rest out printed err reported ended = Exports framing limit MAX_READS input rest out printed err reported ended
+Performs (Convert framing limit format) input rest out printed err reported ended =
+    (status : ExitStatus) × Converts framing limit format input rest out printed err reported status × (ended ≡ Status status)
+Performs (Replay limit false) input rest out printed err reported ended = Replays limit input rest out printed ended × (reported ≡ err)
+Performs (Replay limit true) input rest out printed err reported ended = ReplaysJson limit input rest out printed err reported ended
 Performs (Relog limit) input rest out printed err reported ended =
     (status : ExitStatus) × Relogs limit input rest out printed err reported status × (ended ≡ Status status)
 Performs (Serve port count stream) input rest out printed err reported ended = Serves stream count input rest out printed ended × (reported ≡ err)
-Performs (Subscribe to user name reads) input rest out printed err reported ended =
+Performs (Master port heartbeat resend finish_after seconds most once) input rest out printed err reported ended = EndsRun ended × (reported ≡ err)
+Performs (Subscribe to user name reads false) input rest out printed err reported ended =
     Subscribes to user name reads out printed ended × (rest ≡ input) × (reported ≡ err)
+Performs (Subscribe to user name reads true) input rest out printed err reported ended =
+    SubscribesJson to user name reads out printed err reported ended × (rest ≡ input)
 Performs (Loopback most) input rest out printed err reported ended = Loops most input rest out printed ended × (reported ≡ err)
 
 -- the subcommand was performed with its options, or an allocation failed

@@ -1,5 +1,6 @@
 //! The command over any devices: parses the arguments, and performs the subcommand.
 ghost use Rattle.std.specs.Prelude.{◌≡◌, codes, ◌⊎◌, false, map};
+ghost use Rattle.mes_frame.specs.Devices.{Device};
 ghost use Rattle.mesosev_stream.specs.Outputs.{output_of};
 ghost use Rattle.mesosev_stream.specs.Printing.{LacksMemory, Prints};
 ghost use Rattle.mesosev_stream.specs.Showing.{Follows};
@@ -8,22 +9,28 @@ ghost use Rattle.mesosev.specs.Running.{Ends, LeavesError, Performs, PerformsSai
 ghost use Rattle.mesosev.specs.Reporting.{Reports, ReportsError, not_text_line};
 ghost use Rattle.mesosev_args.specs.declared.args.Options.{Options as OptionsValue};
 
+use mes_double_http::Host;
 use mes_frame::{Limit, Sink, Source};
+use mes_json::Text;
 use mes_stream::Framing;
 use mesosev_args::{
-    DEFAULT_LIMIT, DEFAULT_LOOPBACK_CHUNK, DEFAULT_STREAM, DEFAULT_SUBSCRIBE_READS,
-    MAX_CONNECTIONS, MAX_PORT, MAX_SUBSCRIBE_READS, MIN_CONNECTIONS, MIN_PORT, MIN_SUBSCRIBE_READS,
-    Options, WordsFault, options,
+    DEFAULT_HEARTBEAT, DEFAULT_LIMIT, DEFAULT_LOOPBACK_CHUNK, DEFAULT_MASTER_CHUNK, DEFAULT_RESEND,
+    DEFAULT_STREAM, DEFAULT_SUBSCRIBE_READS, MAX_CONNECTIONS, MAX_PORT, MAX_SECONDS,
+    MAX_SUBSCRIBE_READS, MIN_CONNECTIONS, MIN_FINISH_AFTER, MIN_HEARTBEAT, MIN_MASTER_PORT,
+    MIN_PORT, MIN_RESEND, MIN_SECONDS, MIN_SUBSCRIBE_READS, Options, WordsFault, options,
 };
-use mesosev_log::{relog, replay};
-use mesosev_net::{loopback, serve, subscribe};
+use mesosev_live::{MasterOptions, master};
+use mesosev_log::{relog, replay, replay_json};
+use mesosev_net::{loopback, serve, subscribe, subscribe_json};
 use mesosev_stream::{
-    Detail, ExitStatus, MAX_READS, Output, RunOutcome, convert, finish, follow, out_of_memory,
-    print_text,
+    Detail, ExitStatus, MAX_READS, Output, RunOutcome, convert, export, finish, follow,
+    out_of_memory, print_text,
 };
 use std::alloc::{AllocGlobal, Global};
 use std::convert::AsStr;
+use std::fs::Files;
 use std::net::{Net, TcpListener, TcpStream};
+use std::time::Clock;
 
 /// The message for an argument that is not UTF-8.
 const NOT_TEXT: &str = "error: a word is not UTF-8\n";
@@ -43,7 +50,7 @@ pub fn run<R, W: AsStr, I: Source, O: Sink, E: Sink>(
     err: &mut E,
 ) -> ExitStatus
 where
-    R: AllocGlobal + Net<Listener = TcpListener, Stream = TcpStream>,
+    R: AllocGlobal + Net<Listener = TcpListener, Stream = TcpStream> + Clock + Files,
     // The effect of the subcommand, the line of a failed output, and the status.
     ensures runs { Ends (Runs (map W.text words.now)
         (I.device input.old) (I.device input.new)
@@ -66,6 +73,12 @@ where
     ensures port { (MIN_PORT ≡ 1) × (MAX_PORT ≡ 65535) }
     ensures count { (MIN_CONNECTIONS ≡ 1) × (MAX_CONNECTIONS ≡ 1000) }
     ensures stream { DEFAULT_STREAM.now ≡ codes "00000000-0000-4000-8000-000000000001" }
+    ensures master_port { (MIN_MASTER_PORT ≡ 0) × (MAX_PORT ≡ 65535) }
+    ensures heartbeat { (MIN_HEARTBEAT ≡ 1) × (MAX_SECONDS ≡ 1000000000)
+        × (DEFAULT_HEARTBEAT.now ≡ codes "15") }
+    ensures resend { (MIN_RESEND ≡ 0) × (DEFAULT_RESEND.now ≡ codes "10") }
+    ensures times { (MIN_FINISH_AFTER ≡ 0) × (MIN_SECONDS ≡ 1) }
+    ensures chunk { DEFAULT_MASTER_CHUNK.now ≡ codes "16777216" }
     ensures reads { (MIN_SUBSCRIBE_READS ≡ 0) × (MAX_SUBSCRIBE_READS ≡ 4294967295)
         × (DEFAULT_SUBSCRIBE_READS.now ≡ codes "1000000") }
     ensures most { DEFAULT_LOOPBACK_CHUNK.now ≡ codes "4096" }
@@ -83,7 +96,7 @@ fn run_args<R, W: AsStr, I: Source, O: Sink, E: Sink>(
     err: &mut E,
 ) -> RunOutcome
 where
-    R: AllocGlobal + Net<Listener = TcpListener, Stream = TcpStream>,
+    R: AllocGlobal + Net<Listener = TcpListener, Stream = TcpStream> + Clock + Files,
     ensures runs { Runs (map W.text words.now)
         (I.device input.old) (I.device input.new)
         (O.device out.old) (O.device out.new)
@@ -115,7 +128,7 @@ fn perform<R, I: Source, O: Sink, E: Sink>(
     err: &mut E,
 ) -> RunOutcome
 where
-    R: AllocGlobal + Net<Listener = TcpListener, Stream = TcpStream>,
+    R: AllocGlobal + Net<Listener = TcpListener, Stream = TcpStream> + Clock + Files,
     ensures { Performs options.now
         (I.device input.old) (I.device input.new)
         (O.device out.old) (O.device out.new)
@@ -127,28 +140,122 @@ where
         Options::Check { framing, limit } => {
             follow_all(alloc, Detail::Counts, *framing, *limit, input, out)
         }
-        Options::Show { framing, limit } => {
-            follow_all(alloc, Detail::Lines, *framing, *limit, input, out)
-        }
+        Options::Show {
+            framing,
+            limit,
+            json,
+        } => show(alloc, *framing, *limit, *json, input, out, err),
         Options::Convert {
             framing,
             limit,
-            most,
-        } => RunOutcome::Status(convert(alloc, *framing, *limit, *most, input, out, err)),
-        Options::Replay { limit } => replay(alloc, *limit, input, out),
+            format,
+        } => RunOutcome::Status(convert(alloc, *framing, *limit, *format, input, out, err)),
+        Options::Replay { limit, json } => replay_log(alloc, *limit, *json, input, out, err),
         Options::Relog { limit } => RunOutcome::Status(relog(alloc, *limit, input, out, err)),
         Options::Serve {
             port,
             count,
             stream,
         } => serve(rt, *port, *count, *stream, input, out),
+        Options::Master {
+            port,
+            heartbeat,
+            resend,
+            finish_after,
+            seconds,
+            most,
+            once,
+        } => {
+            let options = MasterOptions {
+                port: *port,
+                heartbeat: *heartbeat,
+                resend: *resend,
+                finish_after: *finish_after,
+                seconds: *seconds,
+                most: *most,
+                once: *once,
+            };
+            master(rt, &options, input, out)
+        }
         Options::Subscribe {
             to,
             user,
             name,
             reads,
-        } => subscribe(rt, to, user, name, *reads, out),
+            json,
+        } => subscribe_to(rt, to, user, name, *reads, *json, out, err),
         Options::Loopback { most } => loopback(rt, *most, input, out),
+    }
+}
+
+// Performs `show`: prints the lines of the events, or with `json` writes them as JSON Lines.
+fn show<I: Source, O: Sink, E: Sink>(
+    alloc: Global,
+    framing: Framing,
+    limit: Limit,
+    json: bool,
+    input: &mut I,
+    out: &mut O,
+    err: &mut E,
+) -> RunOutcome
+    ensures { Performs (Options.Show framing limit json)
+        (I.device input.old) (I.device input.new)
+        (O.device out.old) (O.device out.new)
+        (E.device err.old) (E.device err.new)
+        result }
+{
+    if json {
+        export(alloc, framing, limit, MAX_READS, input, out, err)
+    } else {
+        follow_all(alloc, Detail::Lines, framing, limit, input, out)
+    }
+}
+
+// Performs `replay`: prints the report of the session, or with `json` one JSON object.
+fn replay_log<I: Source, O: Sink, E: Sink>(
+    alloc: Global,
+    limit: Limit,
+    json: bool,
+    input: &mut I,
+    out: &mut O,
+    err: &mut E,
+) -> RunOutcome
+    ensures { Performs (Options.Replay limit json)
+        (I.device input.old) (I.device input.new)
+        (O.device out.old) (O.device out.new)
+        (E.device err.old) (E.device err.new)
+        result }
+{
+    if json {
+        replay_json(alloc, limit, input, out, err)
+    } else {
+        replay(alloc, limit, input, out)
+    }
+}
+
+// Performs `subscribe`: prints the lines of the events, or with `json` writes them as JSON Lines.
+fn subscribe_to<R, O: Sink, E: Sink>(
+    rt: &R,
+    to: &Host,
+    user: &Text,
+    name: &Text,
+    reads: u32,
+    json: bool,
+    out: &mut O,
+    err: &mut E,
+) -> RunOutcome
+where
+    R: AllocGlobal + Net<Listener = TcpListener, Stream = TcpStream>,
+    ensures { (input : Device) → Performs (Options.Subscribe to.now user.now name.now reads json)
+        input input
+        (O.device out.old) (O.device out.new)
+        (E.device err.old) (E.device err.new)
+        result }
+{
+    if json {
+        subscribe_json(rt, to, user, name, reads, out, err)
+    } else {
+        subscribe(rt, to, user, name, reads, out)
     }
 }
 

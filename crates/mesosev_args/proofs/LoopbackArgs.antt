@@ -1,10 +1,9 @@
 -- Arguments of `loopback` in the usual spelling are accepted, and give the value that they name.
-use Rattle.std.proofs.Common.{◌≡◌, ◌++◌, ◌∙◌, ap, append_assoc, subst, sym, ℕ, List, [], ◌∷◌, Option, Some, None, false, refl, arith, inl, inr}
-use Rattle.std.specs.Prelude.{IsSomeAnd, codes, fold}
-use Rattle.clap.specs.Words.{Row, Rule, Text, first_of, one_of}
+use Rattle.std.proofs.Common.{◌≡◌, ◌∙◌, ap, subst, sym, ℕ, List, [], ◌∷◌, Option, Some, None, false, refl, arith}
+use Rattle.std.specs.Prelude.{codes, fold}
+use Rattle.clap.specs.Words.{Row, Rule, Text, one_of}
 use Rattle.clap.specs.Simple.{Shape, built, filled, filled_from, help_rule, version_rule}
-use Rattle.clap.specs.Walk.{used, with_default}
-use Rattle.clap.specs.declared.builder.value_parser.ValueParser.TheVariants as vp
+use Rattle.clap.specs.Walk.{with_default}
 use Rattle.clap.proofs.OnLiterals.{clap_on_literals}
 use Rattle.mesosev_args.specs.CommandLine.{command_app, most_rule, usually}
 use Rattle.mesosev_args.specs.NamedOptions.{HasNumber, IsMost, SayLoopback}

@@ -1,12 +1,14 @@
 -- A subcommand's name and its matches are those of at most one value of the type `Options`.
-use Rattle.std.proofs.Common.{◌≡◌, ◌∙◌, ap, ℕ, List, ◌∷◌, [], Option, Some, None, refl, sym, subst}
+use Rattle.std.proofs.Common.{◌≡◌, ◌∙◌, ap, ℕ, List, ◌∷◌, [], Bool, true, false, Option, Some, None, refl, sym, subst}
 use Rattle.std.specs.Prelude.{IsSomeAnd, codes, find, option_map}
 use Rattle.std.specs.Str.{bytes_eq}
 use Rattle.clap.specs.Words.{Row, Text, first_of}
 use Rattle.uuid.specs.Text.{parsed}
-use Rattle.mesosev_args.specs.NamedOptions.{HasFraming, HasLimit, HasMost, HasNumber, HasStream, HasText, IsReadAs}
+use Rattle.mesosev_args.specs.NamedOptions.{HasFlag, HasFraming, HasLimit, HasMost, HasNumber, HasOptional, HasStream, HasText, IsReadAs, json_in, most_in}
 use Rattle.mesosev_args.specs.declared.args.Options.{Options}
-use Rattle.mesosev_args.specs.declared.args.Options.TheVariants.{Check, Show, Convert, Replay, Relog, Serve, Subscribe, Loopback}
+use Rattle.mesosev_args.specs.declared.args.Options.TheVariants.{Check, Show, Convert, Replay, Relog, Serve, Master, Subscribe, Loopback}
+use Rattle.mesosev_stream.specs.declared.conversion.OutputFormat.{OutputFormat}
+use Rattle.mesosev_stream.specs.declared.conversion.OutputFormat.TheVariants as form
 use Rattle.mes_stream.specs.declared.stream_reader.Framing.{Framing}
 use Rattle.mes_stream.specs.declared.stream_reader.Framing.TheVariants.{Plain, Chunked}
 use Rattle.mesosev_args.proofs.NumberLemmas.{HasNumber-once}
@@ -19,12 +21,13 @@ pub data Verb : Type 0 where
   replays : Verb
   relogs : Verb
   serves : Verb
+  masters : Verb
   subscribes : Verb
   loops : Verb
 
 abbrev verbs : List (Text × Verb)
 verbs = (codes "check", checks) ∷ (codes "show", shows) ∷ (codes "convert", converts)
-    ∷ (codes "replay", replays) ∷ (codes "relog", relogs) ∷ (codes "serve", serves) ∷ (codes "subscribe", subscribes) ∷ (codes "loopback", loops) ∷ []
+    ∷ (codes "replay", replays) ∷ (codes "relog", relogs) ∷ (codes "serve", serves) ∷ (codes "master", masters) ∷ (codes "subscribe", subscribes) ∷ (codes "loopback", loops) ∷ []
 
 -- the subcommand of this name
 abbrev pub verb_of : Text → Option Verb
@@ -35,27 +38,37 @@ verb_of name = option_map (λ v. v.1) (find (λ v. bytes_eq v.0 name) verbs)
 abbrev pub IsReadBy : Option Verb → List Row → Options → Type 0
 IsReadBy None rows o = ⊥
 IsReadBy (Some checks) rows o = (framing : Framing) × (limit : ℕ) × (o ≡ Check framing limit) × HasFraming rows framing × HasLimit rows limit
-IsReadBy (Some shows) rows o = (framing : Framing) × (limit : ℕ) × (o ≡ Show framing limit) × HasFraming rows framing × HasLimit rows limit
+IsReadBy (Some shows) rows o =
+    (framing : Framing) × (limit : ℕ) × (json : Bool) × (o ≡ Show framing limit json) × HasFraming rows framing × HasLimit rows limit × HasFlag (codes "json") rows json
 IsReadBy (Some converts) rows o =
-    (framing : Framing) × (limit : ℕ) × (most : Option ℕ) × (o ≡ Convert framing limit most) × HasFraming rows framing × HasLimit rows limit × HasMost rows most
-IsReadBy (Some replays) rows o = (limit : ℕ) × (o ≡ Replay limit) × HasLimit rows limit
+    (framing : Framing) × (limit : ℕ) × (format : OutputFormat) × (o ≡ Convert framing limit format) × HasFraming rows framing × HasLimit rows limit
+    × HasMost rows (most_in format) × HasFlag (codes "json") rows (json_in format)
+IsReadBy (Some replays) rows o = (limit : ℕ) × (json : Bool) × (o ≡ Replay limit json) × HasLimit rows limit × HasFlag (codes "json") rows json
 IsReadBy (Some relogs) rows o = (limit : ℕ) × (o ≡ Relog limit) × HasLimit rows limit
 IsReadBy (Some serves) rows o =
     (port : ℕ) × (count : ℕ) × (stream : List ℕ) × (o ≡ Serve port count stream) × HasNumber (codes "port") rows port × HasNumber (codes "count") rows count
     × HasStream rows stream
+IsReadBy (Some masters) rows o =
+    (port : ℕ) × (heartbeat : ℕ) × (resend : ℕ) × (finish_after : Option ℕ) × (seconds : Option ℕ) × (most : ℕ) × (once : Bool)
+    × (o ≡ Master port heartbeat resend finish_after seconds most once) × HasNumber (codes "port") rows port × HasNumber (codes "heartbeat") rows heartbeat
+    × HasNumber (codes "resend") rows resend × HasOptional (codes "finish-after") rows finish_after × HasOptional (codes "seconds") rows seconds
+    × HasNumber (codes "most") rows most × HasFlag (codes "once") rows once
 IsReadBy (Some subscribes) rows o =
-    (to : Text) × (user : Text) × (name : Text) × (reads : ℕ) × (o ≡ Subscribe to user name reads) × HasText (codes "to") rows to
-    × HasText (codes "user") rows user × HasText (codes "name") rows name × HasNumber (codes "reads") rows reads
+    (to : Text) × (user : Text) × (name : Text) × (reads : ℕ) × (json : Bool) × (o ≡ Subscribe to user name reads json) × HasText (codes "to") rows to
+    × HasText (codes "user") rows user × HasText (codes "name") rows name × HasNumber (codes "reads") rows reads × HasFlag (codes "json") rows json
 IsReadBy (Some loops) rows o = (most : ℕ) × (o ≡ Loopback most) × HasNumber (codes "most") rows most
 
 pub read_by : (read : Text × List Row) (o : Options) → IsReadAs read o → IsReadBy (verb_of read.0) read.1 o
 read_by read (Check f m) h = subst (λ (n : Text). IsReadBy (verb_of n) read.1 (Check f m)) (sym h.0) (f, m, refl, h.1, h.2)
-read_by read (Show f m) h = subst (λ (n : Text). IsReadBy (verb_of n) read.1 (Show f m)) (sym h.0) (f, m, refl, h.1, h.2)
-read_by read (Convert f m a) h = subst (λ (n : Text). IsReadBy (verb_of n) read.1 (Convert f m a)) (sym h.0) (f, m, a, refl, h.1, h.2, h.3)
-read_by read (Replay m) h = subst (λ (n : Text). IsReadBy (verb_of n) read.1 (Replay m)) (sym h.0) (m, refl, h.1)
+read_by read (Show f m b) h = subst (λ (n : Text). IsReadBy (verb_of n) read.1 (Show f m b)) (sym h.0) (f, m, b, refl, h.1, h.2, h.3)
+read_by read (Convert f m a) h = subst (λ (n : Text). IsReadBy (verb_of n) read.1 (Convert f m a)) (sym h.0) (f, m, a, refl, h.1, h.2, h.3, h.4)
+read_by read (Replay m b) h = subst (λ (n : Text). IsReadBy (verb_of n) read.1 (Replay m b)) (sym h.0) (m, b, refl, h.1, h.2)
 read_by read (Relog m) h = subst (λ (n : Text). IsReadBy (verb_of n) read.1 (Relog m)) (sym h.0) (m, refl, h.1)
 read_by read (Serve p q s) h = subst (λ (n : Text). IsReadBy (verb_of n) read.1 (Serve p q s)) (sym h.0) (p, q, s, refl, h.1, h.2, h.3)
-read_by read (Subscribe t u v r) h = subst (λ (n : Text). IsReadBy (verb_of n) read.1 (Subscribe t u v r)) (sym h.0) (t, u, v, r, refl, h.1, h.2, h.3, h.4)
+read_by read (Master p q r f s m b) h =
+    subst (λ (n : Text). IsReadBy (verb_of n) read.1 (Master p q r f s m b)) (sym h.0) (p, q, r, f, s, m, b, refl, h.1, h.2, h.3, h.4, h.5, h.6, h.7)
+read_by read (Subscribe t u v r b) h =
+    subst (λ (n : Text). IsReadBy (verb_of n) read.1 (Subscribe t u v r b)) (sym h.0) (t, u, v, r, b, refl, h.1, h.2, h.3, h.4, h.5)
 read_by read (Loopback m) h = subst (λ (n : Text). IsReadBy (verb_of n) read.1 (Loopback m)) (sym h.0) (m, refl, h.1)
 
 framing_once : (rows : List Row) (a b : Framing) → HasFraming rows a → HasFraming rows b → a ≡ b
@@ -64,11 +77,35 @@ framing_once rows Plain Chunked h k = absurd (h k)
 framing_once rows Chunked Plain h k = absurd (k h)
 framing_once rows Chunked Chunked h k = refl
 
-most_once : (rows : List Row) (a b : Option ℕ) → HasMost rows a → HasMost rows b → a ≡ b
+pub most_once : (rows : List Row) (a b : Option ℕ) → HasMost rows a → HasMost rows b → a ≡ b
 most_once rows None None h k = refl
 most_once rows None (Some n) h k = absurd (rw h at k)
 most_once rows (Some m) None h k = absurd (rw k at h)
 most_once rows (Some m) (Some n) h k = ap Some (HasNumber-once (codes "most") rows m n h k)
+
+optional_once : (name : Text) (rows : List Row) (a b : Option ℕ) → HasOptional name rows a → HasOptional name rows b → a ≡ b
+optional_once name rows None None h k = refl
+optional_once name rows None (Some n) h k = absurd (rw h at k)
+optional_once name rows (Some m) None h k = absurd (rw k at h)
+optional_once name rows (Some m) (Some n) h k = ap Some (HasNumber-once name rows m n h k)
+
+pub flag_once : (name : Text) (rows : List Row) (a b : Bool) → HasFlag name rows a → HasFlag name rows b → a ≡ b
+flag_once name rows false false h k = refl
+flag_once name rows false true h k = absurd (h k)
+flag_once name rows true false h k = absurd (k h)
+flag_once name rows true true h k = refl
+
+-- a format is determined by the values of `--most` and `--json`
+format_once : (a b : OutputFormat) → most_in a ≡ most_in b → json_in a ≡ json_in b → a ≡ b
+format_once form.Plain form.Plain h k = refl
+format_once form.Plain (form.Chunked n) h k = absurd (cc)
+format_once form.Plain form.JsonLines h k = absurd (cc)
+format_once (form.Chunked m) form.Plain h k = absurd (cc)
+format_once (form.Chunked m) (form.Chunked n) h k = let same : m ≡ n = cc in ap form.Chunked same
+format_once (form.Chunked m) form.JsonLines h k = absurd (cc)
+format_once form.JsonLines form.Plain h k = absurd (cc)
+format_once form.JsonLines (form.Chunked n) h k = absurd (cc)
+format_once form.JsonLines form.JsonLines h k = refl
 
 text_once : (name : Text) (rows : List Row) (a b : Text) → HasText name rows a → HasText name rows b → a ≡ b
 text_once name rows a b h k = let same : Some a ≡ Some b = sym h ∙ k in cc
@@ -83,19 +120,33 @@ stream_once rows a b h k = parsed_once (first_of (codes "stream") rows) a b h k
 by_once : (v : Option Verb) (rows : List Row) (o p : Options) → IsReadBy v rows o → IsReadBy v rows p → o ≡ p
 by_once None rows o p h k = absurd h
 by_once (Some checks) rows o p (f, m, is, hf, hm) (g, n, also, kf, km) = is ∙ rw (framing_once rows f g hf kf, HasNumber-once (codes "limit") rows m n hm km) refl ∙ sym also
-by_once (Some shows) rows o p (f, m, is, hf, hm) (g, n, also, kf, km) = is ∙ rw (framing_once rows f g hf kf, HasNumber-once (codes "limit") rows m n hm km) refl ∙ sym also
-by_once (Some converts) rows o p (f, m, a, is, hf, hm, ha) (g, n, b, also, kf, km, kb) =
-    is ∙ rw (framing_once rows f g hf kf, HasNumber-once (codes "limit") rows m n hm km, most_once rows a b ha kb) refl ∙ sym also
-by_once (Some replays) rows o p (m, is, hm) (n, also, km) = is ∙ ap Replay (HasNumber-once (codes "limit") rows m n hm km) ∙ sym also
+by_once (Some shows) rows o p (f, m, a, is, hf, hm, ha) (g, n, b, also, kf, km, kb) =
+    is ∙ rw (framing_once rows f g hf kf, HasNumber-once (codes "limit") rows m n hm km, flag_once (codes "json") rows a b ha kb) refl ∙ sym also
+by_once (Some converts) rows o p (f, m, a, is, hf, hm, ha, hj) (g, n, b, also, kf, km, kb, kj) =
+    let same : a ≡ b = format_once a b (most_once rows (most_in a) (most_in b) ha kb) (flag_once (codes "json") rows (json_in a) (json_in b) hj kj) in
+    is ∙ rw (framing_once rows f g hf kf, HasNumber-once (codes "limit") rows m n hm km, same) refl ∙ sym also
+by_once (Some replays) rows o p (m, a, is, hm, ha) (n, b, also, km, kb) =
+    is ∙ rw (HasNumber-once (codes "limit") rows m n hm km, flag_once (codes "json") rows a b ha kb) refl ∙ sym also
 by_once (Some relogs) rows o p (m, is, hm) (n, also, km) = is ∙ ap Relog (HasNumber-once (codes "limit") rows m n hm km) ∙ sym also
 by_once (Some serves) rows o p (a, b, s, is, ha, hb, hs) (c, d, t, also, kc, kd, kt) =
     is ∙ rw (HasNumber-once (codes "port") rows a c ha kc, HasNumber-once (codes "count") rows b d hb kd, stream_once rows s t hs kt) refl ∙ sym also
-by_once (Some subscribes) rows o p (a, b, c, d, is, ha, hb, hc, hd) (e, f, g, h, also, ke, kf, kg, kh) =
+by_once (Some masters) rows o p (a, b, c, d, e, f, g, is, ha, hb, hc, hd, he, hf, hg) (a', b', c', d', e', f', g', also, ka, kb, kc, kd, ke, kf, kg) =
+    is ∙ rw (
+      HasNumber-once (codes "port") rows a a' ha ka,
+      HasNumber-once (codes "heartbeat") rows b b' hb kb,
+      HasNumber-once (codes "resend") rows c c' hc kc,
+      optional_once (codes "finish-after") rows d d' hd kd,
+      optional_once (codes "seconds") rows e e' he ke,
+      HasNumber-once (codes "most") rows f f' hf kf,
+      flag_once (codes "once") rows g g' hg kg,
+    ) refl ∙ sym also
+by_once (Some subscribes) rows o p (a, b, c, d, j, is, ha, hb, hc, hd, hj) (e, f, g, h, i, also, ke, kf, kg, kh, ki) =
     is ∙ rw (
       text_once (codes "to") rows a e ha ke,
       text_once (codes "user") rows b f hb kf,
       text_once (codes "name") rows c g hc kg,
       HasNumber-once (codes "reads") rows d h hd kh,
+      flag_once (codes "json") rows j i hj ki,
     ) refl ∙ sym also
 by_once (Some loops) rows o p (m, is, hm) (n, also, km) = is ∙ ap Loopback (HasNumber-once (codes "most") rows m n hm km) ∙ sym also
 

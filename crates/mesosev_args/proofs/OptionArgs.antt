@@ -14,7 +14,7 @@ use Rattle.clap.specs.declared.builder.value_parser.ValueParser.{ValueParser}
 use Rattle.clap.specs.declared.builder.value_parser.ValueParser.TheVariants as vp
 use Rattle.clap.proofs.KindLemmas.{value_kinds-ok}
 use Rattle.mesosev_args.specs.CommandLine.{chunked_rule, limit_rule}
-use Rattle.mesosev_args.specs.NamedOptions.{HasFraming, HasMost, IsLimit, IsMost, SayFraming, SayLimit, SayMost, SayNumber, SayText, SayUsually, Writes}
+use Rattle.mesosev_args.specs.NamedOptions.{HasFraming, HasMost, HasOptional, IsLimit, IsMost, IsWithin, SayFraming, SayLimit, SayMost, SayNumber, SayOptional, SayText, SayUsually, Writes}
 use Rattle.mes_stream.specs.declared.stream_reader.Framing.{Framing}
 use Rattle.mes_stream.specs.declared.stream_reader.Framing.TheVariants.{Plain, Chunked}
 use Rattle.mes_frame.specs.declared.limits.TheConstants.{MIN_CHUNK, MAX_CHUNK, MIN_RECORD_LIMIT, MAX_RECORD_LIMIT}
@@ -132,6 +132,33 @@ given_number held option parser words n s is =
 pub has_number : (held : Option Text) (option : Text) (usual : Option Text) (parser : ValueParser) (words : List Text) (n : ℕ)
     → (s : Says option usual parser words n) → held ≡ value_or usual (given_value s.given) → IsSomeAnd held (λ text. Writes text n)
 has_number held option usual parser words n s is = subst (λ h. IsSomeAnd h (λ text. Writes text n)) (sym (is ∙ s.text_is)) s.writes
+
+-- ---- arguments that give an option a number or leave it out
+
+-- the text of an option writes the number; without a number the option has no text
+abbrev pub IsMaybe : Option Text → Option ℕ → Type 0
+IsMaybe held None = held ≡ None
+IsMaybe held (Some n) = IsSomeAnd held (λ text. Writes text n)
+
+-- the arguments give the option this number; without a number they leave out the option
+pub record SaysOptional (option : Text) (parser : ValueParser) (words : List Text) (n : Option ℕ) : Type 0 where
+  pub given : Given
+  pub is : words ≡ given_words option given
+  pub plain : IsNoFlag (given_value given)
+  pub fits : Fits parser (given_value given)
+  pub number : IsMaybe (given_value given) n
+
+module _ (least most : ℕ) (small : most ≤ 4294967295) (option : Text) (words : List Text) where
+  pub says_optional : (n : Option ℕ) → SayOptional option words n → IsWithin least most n → SaysOptional option (number_parser least most) words n
+  says_optional None is range = record { given = absent; is = is; plain = tt; fits = tt; number = refl }
+  says_optional (Some n) says range =
+      let s : Says option None (number_parser least most) words n = says_number least most small option None words n says range in
+      record { given = s.given; is = s.is; plain = s.plain; fits = s.fits; number = has_number (given_value s.given) option None (number_parser least most) words n s (sym (value_or_none (given_value s.given))) }
+
+-- the option has the number that the arguments give, or is not given
+pub has_optional : (option : Text) (rows : List Row) (held : Option Text) (n : Option ℕ) → one_of option rows ≡ held → IsMaybe held n → HasOptional option rows n
+has_optional option rows held None is number = is ∙ number
+has_optional option rows held (Some n) is number = subst (λ h. IsSomeAnd h (λ text. Writes text n)) (sym is) number
 
 -- ---- `--chunked`
 

@@ -1,4 +1,5 @@
--- The values read from `--chunked` and `--most` are those that the matches have.
+-- The values read from flags, from `--most` and from options that may be absent are those that the
+-- matches have.
 use Rattle.std.proofs.Common.{◌≡◌, ◌<◌, ◌^◌, ◌∙◌, ap, ℕ, Bool, true, false, Option, Some, None, Result, Ok, Err, refl, sym, subst, arith}
 use Rattle.std.specs.Prelude.{◌≤◌, codes}
 use Rattle.std.specs.Str.Parse.{ParsesBool}
@@ -6,11 +7,11 @@ use Rattle.std.specs.declared.num.ParseIntError.{ParseIntError}
 use Rattle.clap.specs.Words.{ReadsOne, TriesOne, Text, one_of, one_text, rows_of}
 use Rattle.clap.specs.declared.parser.matches.Found.{Found}
 use Rattle.clap.proofs.WalkLemmas.{one_text-rows}
-use Rattle.mesosev_args.specs.NamedOptions.{HasMost, IsMost}
+use Rattle.mesosev_args.specs.NamedOptions.{HasFlag, HasMost, HasOptional, IsMost, IsWithin}
 use Rattle.mesosev_args.proofs.NumberLemmas.{FromStr, IsWritten, written_once}
 use Rattle.mes_frame.specs.declared.limits.TheConstants.{MIN_CHUNK, MAX_CHUNK}
 
--- ---- the flag `--chunked`
+-- ---- a flag
 
 -- the contract of `bool::from_str`
 abbrev pub BoolFromStr : {E : Type 0} → Text → Result Bool E → Type 0
@@ -29,13 +30,19 @@ unset_text E held None value not is = (value (codes "true") is).1.0 refl
 unset_text E held (Some true) value not is = not refl
 unset_text E held (Some false) value not is = let bad : codes "true" ≡ codes "false" = value (codes "true") is in absurd (cc)
 
-pub flag_set : (E : Type 0) (f : Found) (r : Option Bool) → (one_text f (codes "chunked") ≡ None → r ≡ None)
-    → ((t : Text) → one_text f (codes "chunked") ≡ Some t → ReadsOne {E = E} BoolFromStr t r) → r ≡ Some true → one_of (codes "chunked") (rows_of f) ≡ Some (codes "true")
-flag_set E f r none value is = sym (one_text-rows f (codes "chunked")) ∙ set_text E (one_text f (codes "chunked")) r none value is
+-- for a flag of any name
+module _ (E : Type 0) (name : Text) (f : Found) (r : Option Bool) (value : (t : Text) → one_text f name ≡ Some t → ReadsOne {E = E} BoolFromStr t r) where
+  pub flag_unset : (r ≡ Some true → ⊥) → one_of name (rows_of f) ≡ Some (codes "true") → ⊥
+  flag_unset not is = unset_text E (one_text f name) r value not (one_text-rows f name ∙ is)
 
-pub flag_unset : (E : Type 0) (f : Found) (r : Option Bool) → ((t : Text) → one_text f (codes "chunked") ≡ Some t → ReadsOne {E = E} BoolFromStr t r)
-    → (r ≡ Some true → ⊥) → one_of (codes "chunked") (rows_of f) ≡ Some (codes "true") → ⊥
-flag_unset E f r value not is = unset_text E (one_text f (codes "chunked")) r value not (one_text-rows f (codes "chunked") ∙ is)
+  module _ (none : one_text f name ≡ None → r ≡ None) where
+    pub flag_set : r ≡ Some true → one_of name (rows_of f) ≡ Some (codes "true")
+    flag_set is = sym (one_text-rows f name) ∙ set_text E (one_text f name) r none value is
+
+    -- the flag is set exactly if the value read is true
+    pub flag_read : (is_set : Bool) → r ≡ Some is_set → HasFlag name (rows_of f) is_set
+    flag_read true is = flag_set is
+    flag_read false is = flag_unset (λ e. let bad : Some true ≡ Some false = sym e ∙ is in absurd (cc))
 
 -- ---- the chunk size `--most`
 
@@ -85,3 +92,30 @@ module _ (f : Found) (r : Tried) (value : (t : Text) → one_text f (codes "most
     most_unread e is (None, has, range) = let same : r ≡ Ok None = none (one_text-rows f (codes "most") ∙ has) in absurd (cc)
     most_unread e is (Some m, has, range) =
         tried_err (one_text f (codes "most")) r e value is m (subst (IsWritten m) (sym (one_text-rows f (codes "most"))) has) (omega (arith, range.1))
+
+-- ---- an option that may be absent
+
+module _ (name : Text) (f : Found) (r : Tried) (value : (t : Text) → one_text f name ≡ Some t → TriesOne FromStr t r) where
+  -- if no value is read, the option is not given
+  pub optional_absent : r ≡ Ok None → HasOptional name (rows_of f) None
+  optional_absent is = sym (one_text-rows f name) ∙ tried_none (one_text f name) r value is
+
+  module _ (none : one_text f name ≡ None → r ≡ Ok None) where
+    -- if a number is read, it is the value of the option
+    pub optional_given : (n : ℕ) → r ≡ Ok (Some n) → HasOptional name (rows_of f) (Some n)
+    optional_given n is = subst (IsWritten n) (one_text-rows f name) (tried_some (one_text f name) r none value n is)
+
+    module _ (least greatest : ℕ) where
+      -- if the number read is out of range, the option has no value in its range, and is not absent
+      pub optional_out : (n : ℕ) → r ≡ Ok (Some n) → (((least ≤ n) × (n ≤ greatest)) → ⊥)
+          → ((m : Option ℕ) × HasOptional name (rows_of f) m × IsWithin least greatest m) → ⊥
+      optional_out n is not (None, has, range) = rw has at (optional_given n is)
+      optional_out n is not (Some m, has, range) =
+          let same : m ≡ n = written_once (one_of name (rows_of f)) m n has (optional_given n is) in not (rw (← same) range)
+
+      -- if an error is read, the option has no value in its range, and is not absent
+      pub optional_unread : greatest < 2 ^ 32 → (e : ParseIntError) → r ≡ Err e
+          → ((m : Option ℕ) × HasOptional name (rows_of f) m × IsWithin least greatest m) → ⊥
+      optional_unread small e is (None, has, range) = let same : r ≡ Ok None = none (one_text-rows f name ∙ has) in absurd (cc)
+      optional_unread small e is (Some m, has, range) =
+          tried_err (one_text f name) r e value is m (subst (IsWritten m) (sym (one_text-rows f name)) has) (omega (arith, range.1, small))

@@ -1,6 +1,6 @@
 -- The options read from clap's matches of the arguments are those that the arguments name.
-use Rattle.std.proofs.Common.{◌≡◌, ◌⊎◌, List, [], inl, inr, Option, Some, None, Result, Ok, Err, sym, subst}
-use Rattle.std.specs.Prelude.{Box, IfErr, IfOk, IsSomeAnd, codes, option_map}
+use Rattle.std.proofs.Common.{◌≡◌, ◌⊎◌, List, [], inl, Option, Some, None, Result, Ok, Err, sym, subst}
+use Rattle.std.specs.Prelude.{Box, IfErr, IfOk, IsSomeAnd, option_map}
 use Rattle.std.specs.Box.{box_value}
 use Rattle.clap.specs.Words.{Row, Text, fault_of, subcommand_of, subcommand_rows_of}
 use Rattle.clap.specs.Matches.{subcommand_name_of}

@@ -1,5 +1,5 @@
--- Arguments of `check` and `show`, which have `--chunked` and `--limit` only, are accepted in the
--- usual spelling, and give the values that they name.
+-- Arguments of `check`, which has `--chunked` and `--limit` only, are accepted in the usual spelling,
+-- and give the values that they name.
 use Rattle.std.proofs.Common.{◌≡◌, ◌++◌, ◌∙◌, ap, subst, sym, ℕ, List, [], ◌∷◌, Option, Some, None, refl}
 use Rattle.std.specs.Prelude.{codes, fold}
 use Rattle.clap.specs.Words.{Row, Rule, Text, one_of}

@@ -7,27 +7,24 @@ use Rattle.clap.specs.Simple.{built}
 use Rattle.mesosev_args.specs.CommandLine.{command_app}
 use Rattle.mesosev_args.specs.NamedOptions.{IsInRange, IsReadAs, NameOptions, RefusesArgs, SayPlainly}
 use Rattle.mesosev_args.specs.declared.args.Options.{Options}
-use Rattle.mesosev_args.specs.declared.args.Options.TheVariants.{Check, Show, Convert, Replay, Relog, Serve, Subscribe, Loopback}
+use Rattle.mesosev_args.specs.declared.args.Options.TheVariants.{Check, Show, Convert, Replay, Relog, Serve, Master, Subscribe, Loopback}
 use Rattle.mesosev_args.specs.declared.args.WordsFault.{WordsFault}
 use Rattle.mesosev_args.specs.declared.args.WordsFault.TheVariants.{Clap, BadValue, NoMemory}
 use Rattle.mesosev_args.proofs.ConvertArgs.{said_convert}
 use Rattle.mesosev_args.proofs.LogArgs.{log_shape, said_log}
 use Rattle.mesosev_args.proofs.LoopbackArgs.{said_loopback}
+use Rattle.mesosev_args.proofs.MasterArgs.{said_master}
 use Rattle.mesosev_args.proofs.NamedOnce.{named_once}
 use Rattle.mesosev_args.proofs.ReadingArgs.{reading_shape, said_reading}
+use Rattle.mesosev_args.proofs.ReplayArgs.{said_replay}
 use Rattle.mesosev_args.proofs.ServeArgs.{said_serve}
+use Rattle.mesosev_args.proofs.ShowArgs.{said_show}
 use Rattle.mesosev_args.proofs.SubscribeArgs.{said_subscribe}
 use Rattle.mesosev_args.proofs.Subcommands.{IsSubcommand}
 use Rattle.mesosev_args.proofs.ParsedArgs.{Takes}
 
 check_is : IsSubcommand (built command_app) (codes "check") (reading_shape (codes "check"))
 check_is = record { met = refl; found = refl; other = refl }
-
-show_is : IsSubcommand (built command_app) (codes "show") (reading_shape (codes "show"))
-show_is = record { met = refl; found = refl; other = refl }
-
-replay_is : IsSubcommand (built command_app) (codes "replay") (log_shape (codes "replay"))
-replay_is = record { met = refl; found = refl; other = refl }
 
 relog_is : IsSubcommand (built command_app) (codes "relog") (log_shape (codes "relog"))
 relog_is = record { met = refl; found = refl; other = refl }
@@ -44,22 +41,26 @@ plain_names : (words : List Text) (o : Options) → SayPlainly words o → IsInR
 plain_names words (Check framing limit) says range =
     let s = said_reading (codes "check") check_is words framing limit says range in
     names words (codes "check") s.rows (Check framing limit) s.takes (refl, s.framing_has, s.limit_has)
-plain_names words (Show framing limit) says range =
-    let s = said_reading (codes "show") show_is words framing limit says range in
-    names words (codes "show") s.rows (Show framing limit) s.takes (refl, s.framing_has, s.limit_has)
-plain_names words (Convert framing limit most) says range =
-    let s = said_convert words framing limit most says range.0 range.1 in
-    names words (codes "convert") s.rows (Convert framing limit most) s.takes (refl, s.framing_has, s.limit_has, s.most_has)
-plain_names words (Replay limit) says range =
-    let s = said_log (codes "replay") replay_is words limit says range in names words (codes "replay") s.rows (Replay limit) s.takes (refl, s.limit_has)
+plain_names words (Show framing limit json) says range =
+    let s = said_show words framing limit json says range in
+    names words (codes "show") s.rows (Show framing limit json) s.takes (refl, s.framing_has, s.limit_has, s.json_has)
+plain_names words (Convert framing limit format) says range =
+    let s = said_convert words framing limit format says range.0 range.1 in
+    names words (codes "convert") s.rows (Convert framing limit format) s.takes (refl, s.framing_has, s.limit_has, s.most_has, s.json_has)
+plain_names words (Replay limit json) says range =
+    let s = said_replay words limit json says range in names words (codes "replay") s.rows (Replay limit json) s.takes (refl, s.limit_has, s.json_has)
 plain_names words (Relog limit) says range =
     let s = said_log (codes "relog") relog_is words limit says range in names words (codes "relog") s.rows (Relog limit) s.takes (refl, s.limit_has)
 plain_names words (Serve port count stream) says range =
     let s = said_serve words port count stream says range.0 range.1 in
     names words (codes "serve") s.rows (Serve port count stream) s.takes (refl, s.port_has, s.count_has, s.stream_has)
-plain_names words (Subscribe to user name reads) says range =
-    let s = said_subscribe words to user name reads says range.1 in
-    names words (codes "subscribe") s.rows (Subscribe to user name reads) s.takes (refl, s.to_has, s.user_has, s.name_has, s.reads_has)
+plain_names words (Master port heartbeat resend finish_after seconds most once) says range =
+    let s = said_master words port heartbeat resend finish_after seconds most once says range in
+    names words (codes "master") s.rows (Master port heartbeat resend finish_after seconds most once) s.takes
+    (refl, s.port_has, s.heartbeat_has, s.resend_has, s.finish_after_has, s.seconds_has, s.most_has, s.once_has)
+plain_names words (Subscribe to user name reads json) says range =
+    let s = said_subscribe words to user name reads json says range.1 in
+    names words (codes "subscribe") s.rows (Subscribe to user name reads json) s.takes (refl, s.to_has, s.user_has, s.name_has, s.reads_has, s.json_has)
 plain_names words (Loopback most) says range =
     let s = said_loopback words most says range in names words (codes "loopback") s.rows (Loopback most) s.takes (refl, s.most_has)
 

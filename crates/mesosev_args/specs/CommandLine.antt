@@ -8,6 +8,8 @@ use Rattle.clap.specs.declared.builder.command.Command.TheViews.{out-Command}
 use Rattle.clap.specs.declared.builder.value_parser.ValueParser.TheVariants as vp
 use Rattle.mesosev_args.specs.declared.args.TheConstants.{DEFAULT_LIMIT, DEFAULT_LOOPBACK_CHUNK, DEFAULT_SUBSCRIBE_READS, DEFAULT_STREAM}
 use Rattle.mesosev_args.specs.declared.args.TheConstants.{MIN_CONNECTIONS, MAX_CONNECTIONS, MIN_PORT, MAX_PORT, MIN_SUBSCRIBE_READS, MAX_SUBSCRIBE_READS}
+use Rattle.mesosev_args.specs.declared.args.TheConstants.{MIN_MASTER_PORT, MAX_SECONDS, MIN_HEARTBEAT, MIN_RESEND, MIN_FINISH_AFTER, MIN_SECONDS}
+use Rattle.mesosev_args.specs.declared.args.TheConstants.{DEFAULT_HEARTBEAT, DEFAULT_MASTER_CHUNK, DEFAULT_RESEND}
 use Rattle.mes_frame.specs.declared.limits.TheConstants.{MIN_CHUNK, MAX_CHUNK, MIN_RECORD_LIMIT, MAX_RECORD_LIMIT}
 
 -- the Rust command `c` is `app` in clap's model, and shares no argument with its subcommands
@@ -17,6 +19,14 @@ IsCommand app c = (app_of c ≡ app) × ((out-Command c).has_globals ≡ false)
 -- the flag `--chunked`
 abbrev pub chunked_rule : Rule
 chunked_rule = record (new_rule (codes "chunked")) { long = Some (codes "chunked"); action = Some SetTrue }
+
+-- the flag `--json`
+abbrev pub json_rule : Rule
+json_rule = record (new_rule (codes "json")) { long = Some (codes "json"); action = Some SetTrue }
+
+-- the flag `--once`
+abbrev pub once_rule : Rule
+once_rule = record (new_rule (codes "once")) { long = Some (codes "once"); action = Some SetTrue }
 
 -- the option `--NAME N`, for a number from `least` to `greatest`
 abbrev pub number_rule : Text → ℕ → ℕ → Rule
@@ -57,6 +67,28 @@ count_rule = wanted (number_rule (codes "count") MIN_CONNECTIONS MAX_CONNECTIONS
 abbrev pub stream_rule : Rule
 stream_rule = usually DEFAULT_STREAM.now (text_rule (codes "stream"))
 
+-- `--port P` of `master`: a number in its range, which begins at 0
+abbrev pub master_port_rule : Rule
+master_port_rule = wanted (number_rule (codes "port") MIN_MASTER_PORT MAX_PORT)
+
+-- `--heartbeat S`, `--resend S`: numbers in their ranges, with defaults
+abbrev pub heartbeat_rule : Rule
+heartbeat_rule = usually DEFAULT_HEARTBEAT.now (number_rule (codes "heartbeat") MIN_HEARTBEAT MAX_SECONDS)
+
+abbrev pub resend_rule : Rule
+resend_rule = usually DEFAULT_RESEND.now (number_rule (codes "resend") MIN_RESEND MAX_SECONDS)
+
+-- `--finish-after S`, `--seconds S`: numbers in their ranges
+abbrev pub finish_after_rule : Rule
+finish_after_rule = number_rule (codes "finish-after") MIN_FINISH_AFTER MAX_SECONDS
+
+abbrev pub seconds_rule : Rule
+seconds_rule = number_rule (codes "seconds") MIN_SECONDS MAX_SECONDS
+
+-- `--most M` of `master`, with a default chunk size
+abbrev pub chunk_rule : Rule
+chunk_rule = usually DEFAULT_MASTER_CHUNK.now most_rule
+
 -- `--to ADDR`, `--user U`, `--name N`
 abbrev pub to_rule : Rule
 to_rule = wanted (text_rule (codes "to"))
@@ -79,17 +111,17 @@ reading_app name = with_rule (with_rule (new_app name) chunked_rule) limit_rule
 abbrev pub check_app : App
 check_app = reading_app (codes "check")
 
--- `show [--chunked] [--limit N]`
+-- `show [--chunked] [--limit N] [--json]`
 abbrev pub show_app : App
-show_app = reading_app (codes "show")
+show_app = with_rule (reading_app (codes "show")) json_rule
 
--- `convert [--chunked] [--limit N] [--most M]`
+-- `convert [--chunked] [--limit N] [--most M] [--json]`
 abbrev pub convert_app : App
-convert_app = with_rule (reading_app (codes "convert")) most_rule
+convert_app = with_rule (with_rule (reading_app (codes "convert")) most_rule) json_rule
 
--- `replay [--limit N]`
+-- `replay [--limit N] [--json]`
 abbrev pub replay_app : App
-replay_app = with_rule (new_app (codes "replay")) limit_rule
+replay_app = with_rule (with_rule (new_app (codes "replay")) limit_rule) json_rule
 
 -- `relog [--limit N]`
 abbrev pub relog_app : App
@@ -99,9 +131,13 @@ relog_app = with_rule (new_app (codes "relog")) limit_rule
 abbrev pub serve_app : App
 serve_app = with_rule (with_rule (with_rule (new_app (codes "serve")) port_rule) count_rule) stream_rule
 
--- `subscribe --to ADDR --user U --name N [--reads R]`
+-- `master --port P [--heartbeat S] [--resend S] [--finish-after S] [--seconds S] [--most M] [--once]`
+abbrev pub master_app : App
+master_app = fold with_rule (new_app (codes "master")) (master_port_rule ∷ heartbeat_rule ∷ resend_rule ∷ finish_after_rule ∷ seconds_rule ∷ chunk_rule ∷ once_rule ∷ [])
+
+-- `subscribe --to ADDR --user U --name N [--reads R] [--json]`
 abbrev pub subscribe_app : App
-subscribe_app = with_rule (with_rule (with_rule (with_rule (new_app (codes "subscribe")) to_rule) user_rule) name_rule) reads_rule
+subscribe_app = with_rule (with_rule (with_rule (with_rule (with_rule (new_app (codes "subscribe")) to_rule) user_rule) name_rule) reads_rule) json_rule
 
 -- `loopback [--most M]`, with a default chunk size
 abbrev pub loopback_app : App
@@ -113,7 +149,7 @@ bare_app = on_top (λ s. record s { subcommand_required = true; has_version = tr
 
 -- the subcommands, in the order of the help text
 abbrev pub subcommands : List App
-subcommands = check_app ∷ show_app ∷ convert_app ∷ replay_app ∷ relog_app ∷ serve_app ∷ subscribe_app ∷ loopback_app ∷ []
+subcommands = check_app ∷ show_app ∷ convert_app ∷ replay_app ∷ relog_app ∷ serve_app ∷ master_app ∷ subscribe_app ∷ loopback_app ∷ []
 
 -- `mesosev SUBCOMMAND`
 abbrev pub command_app : App

@@ -12,12 +12,16 @@ use Rattle.mesosev_args.specs.CommandLine.{command_app}
 use Rattle.mes_stream.specs.declared.stream_reader.Framing.{Framing}
 use Rattle.mes_stream.specs.declared.stream_reader.Framing.TheVariants.{Plain, Chunked}
 use Rattle.mesosev_args.specs.declared.args.Options.{Options}
-use Rattle.mesosev_args.specs.declared.args.Options.TheVariants.{Check, Show, Convert, Replay, Relog, Serve, Subscribe, Loopback}
+use Rattle.mesosev_args.specs.declared.args.Options.TheVariants.{Check, Show, Convert, Replay, Relog, Serve, Master, Subscribe, Loopback}
 use Rattle.mesosev_args.specs.declared.args.WordsFault.{WordsFault}
 use Rattle.mesosev_args.specs.declared.args.WordsFault.TheVariants.{Clap, BadValue, NoMemory}
 use Rattle.mesosev_args.specs.declared.args.TheConstants.{DEFAULT_LIMIT, DEFAULT_LOOPBACK_CHUNK, DEFAULT_SUBSCRIBE_READS, DEFAULT_STREAM}
 use Rattle.mesosev_args.specs.declared.args.TheConstants.{MIN_CONNECTIONS, MAX_CONNECTIONS, MIN_PORT, MAX_PORT, MIN_SUBSCRIBE_READS, MAX_SUBSCRIBE_READS}
+use Rattle.mesosev_args.specs.declared.args.TheConstants.{MIN_MASTER_PORT, MAX_SECONDS, MIN_HEARTBEAT, MIN_RESEND, MIN_FINISH_AFTER, MIN_SECONDS}
+use Rattle.mesosev_args.specs.declared.args.TheConstants.{DEFAULT_HEARTBEAT, DEFAULT_MASTER_CHUNK, DEFAULT_RESEND}
 use Rattle.mes_frame.specs.declared.limits.TheConstants.{MIN_CHUNK, MAX_CHUNK, MIN_RECORD_LIMIT, MAX_RECORD_LIMIT}
+use Rattle.mesosev_stream.specs.declared.conversion.OutputFormat.{OutputFormat}
+use Rattle.mesosev_stream.specs.declared.conversion.OutputFormat.TheVariants as form
 
 -- the text is the number in decimal digits, with or without a leading `+`
 abbrev pub Writes : Text → ℕ → Type 0
@@ -29,9 +33,19 @@ abbrev pub HasFraming : List Row → Framing → Type 0
 HasFraming rows Plain = one_of (codes "chunked") rows ≢ Some (codes "true")
 HasFraming rows Chunked = one_of (codes "chunked") rows ≡ Some (codes "true")
 
+-- the flag of this name is set in a subcommand's matches exactly if this is true
+abbrev pub HasFlag : Text → List Row → Bool → Type 0
+HasFlag flag rows false = one_of flag rows ≢ Some (codes "true")
+HasFlag flag rows true = one_of flag rows ≡ Some (codes "true")
+
 -- the option of this name has this number in a subcommand's matches, given or by default
 abbrev pub HasNumber : Text → List Row → ℕ → Type 0
 HasNumber option rows n = IsSomeAnd (one_of option rows) (λ text. Writes text n)
+
+-- the option of this name has this number in a subcommand's matches, or is not given
+abbrev pub HasOptional : Text → List Row → Option ℕ → Type 0
+HasOptional option rows None = one_of option rows ≡ None
+HasOptional option rows (Some n) = HasNumber option rows n
 
 -- the option of this name has this text in a subcommand's matches
 abbrev pub HasText : Text → List Row → Text → Type 0
@@ -46,6 +60,23 @@ abbrev pub HasMost : List Row → Option ℕ → Type 0
 HasMost rows None = one_of (codes "most") rows ≡ None
 HasMost rows (Some most) = HasNumber (codes "most") rows most
 
+-- the values of `--most` and `--json` for a format
+abbrev pub most_in : OutputFormat → Option ℕ
+most_in form.Plain = None
+most_in (form.Chunked most) = Some most
+most_in form.JsonLines = None
+
+abbrev pub json_in : OutputFormat → Bool
+json_in form.Plain = false
+json_in (form.Chunked most) = false
+json_in form.JsonLines = true
+
+-- `--most` and `--json` are both given, and the error names `--json`
+abbrev pub ExcludeEach : Option ℕ → Bool → WordsFault → Type 0
+ExcludeEach most json (Clap error) = ⊥
+ExcludeEach most json (BadValue option) = (option.now ≡ codes "json") × (json ≡ true) × (most ≢ None)
+ExcludeEach most json NoMemory = ⊥
+
 -- `--stream` has this UUID in a subcommand's matches, in any text form of a UUID
 abbrev pub HasStream : List Row → List ℕ → Type 0
 HasStream rows stream = IsSomeAnd (first_of (codes "stream") rows) (λ text. parsed text ≡ Some stream)
@@ -53,16 +84,22 @@ HasStream rows stream = IsSomeAnd (first_of (codes "stream") rows) (λ text. par
 -- the subcommand's name and its matches are those of these options
 abbrev pub IsReadAs : Text × List Row → Options → Type 0
 IsReadAs read (Check framing limit) = (read.0 ≡ codes "check") × HasFraming read.1 framing × HasLimit read.1 limit
-IsReadAs read (Show framing limit) = (read.0 ≡ codes "show") × HasFraming read.1 framing × HasLimit read.1 limit
-IsReadAs read (Convert framing limit most) =
-    (read.0 ≡ codes "convert") × HasFraming read.1 framing × HasLimit read.1 limit × HasMost read.1 most
-IsReadAs read (Replay limit) = (read.0 ≡ codes "replay") × HasLimit read.1 limit
+IsReadAs read (Show framing limit json) =
+    (read.0 ≡ codes "show") × HasFraming read.1 framing × HasLimit read.1 limit × HasFlag (codes "json") read.1 json
+IsReadAs read (Convert framing limit format) =
+    (read.0 ≡ codes "convert") × HasFraming read.1 framing × HasLimit read.1 limit × HasMost read.1 (most_in format)
+    × HasFlag (codes "json") read.1 (json_in format)
+IsReadAs read (Replay limit json) = (read.0 ≡ codes "replay") × HasLimit read.1 limit × HasFlag (codes "json") read.1 json
 IsReadAs read (Relog limit) = (read.0 ≡ codes "relog") × HasLimit read.1 limit
 IsReadAs read (Serve port count stream) =
     (read.0 ≡ codes "serve") × HasNumber (codes "port") read.1 port × HasNumber (codes "count") read.1 count × HasStream read.1 stream
-IsReadAs read (Subscribe to user name reads) =
+IsReadAs read (Master port heartbeat resend finish_after seconds most once) =
+    (read.0 ≡ codes "master") × HasNumber (codes "port") read.1 port × HasNumber (codes "heartbeat") read.1 heartbeat
+    × HasNumber (codes "resend") read.1 resend × HasOptional (codes "finish-after") read.1 finish_after
+    × HasOptional (codes "seconds") read.1 seconds × HasNumber (codes "most") read.1 most × HasFlag (codes "once") read.1 once
+IsReadAs read (Subscribe to user name reads json) =
     (read.0 ≡ codes "subscribe") × HasText (codes "to") read.1 to × HasText (codes "user") read.1 user × HasText (codes "name") read.1 name
-    × HasNumber (codes "reads") read.1 reads
+    × HasNumber (codes "reads") read.1 reads × HasFlag (codes "json") read.1 json
 IsReadAs read (Loopback most) = (read.0 ≡ codes "loopback") × HasNumber (codes "most") read.1 most
 
 -- the arguments name the subcommand and the values of these options
@@ -78,6 +115,11 @@ abbrev pub IsMost : Option ℕ → Type 0
 IsMost None = Unit {0}
 IsMost (Some most) = (MIN_CHUNK ≤ most) × (most ≤ MAX_CHUNK)
 
+-- the number, if given, is from `least` to `greatest`
+abbrev pub IsWithin : ℕ → ℕ → Option ℕ → Type 0
+IsWithin least greatest None = Unit {0}
+IsWithin least greatest (Some n) = (least ≤ n) × (n ≤ greatest)
+
 -- the values of `--port`, `--count` and `--reads` are in their ranges
 abbrev pub IsPort : ℕ → Type 0
 IsPort port = (MIN_PORT ≤ port) × (port ≤ MAX_PORT)
@@ -88,15 +130,33 @@ IsCount count = (MIN_CONNECTIONS ≤ count) × (count ≤ MAX_CONNECTIONS)
 abbrev pub IsReads : ℕ → Type 0
 IsReads reads = (MIN_SUBSCRIBE_READS ≤ reads) × (reads ≤ MAX_SUBSCRIBE_READS)
 
+-- the values of the options of `master` are in their ranges
+abbrev pub IsMasterPort : ℕ → Type 0
+IsMasterPort port = (MIN_MASTER_PORT ≤ port) × (port ≤ MAX_PORT)
+
+abbrev pub IsHeartbeat : ℕ → Type 0
+IsHeartbeat heartbeat = (MIN_HEARTBEAT ≤ heartbeat) × (heartbeat ≤ MAX_SECONDS)
+
+abbrev pub IsResend : ℕ → Type 0
+IsResend resend = (MIN_RESEND ≤ resend) × (resend ≤ MAX_SECONDS)
+
+abbrev pub IsFinishAfter : Option ℕ → Type 0
+IsFinishAfter finish_after = IsWithin MIN_FINISH_AFTER MAX_SECONDS finish_after
+
+abbrev pub IsSeconds : Option ℕ → Type 0
+IsSeconds seconds = IsWithin MIN_SECONDS MAX_SECONDS seconds
+
 -- each value of the options is in its range
 abbrev pub IsInRange : Options → Type 0
 IsInRange (Check framing limit) = IsLimit limit
-IsInRange (Show framing limit) = IsLimit limit
-IsInRange (Convert framing limit most) = IsLimit limit × IsMost most
-IsInRange (Replay limit) = IsLimit limit
+IsInRange (Show framing limit json) = IsLimit limit
+IsInRange (Convert framing limit format) = IsLimit limit × IsMost (most_in format)
+IsInRange (Replay limit json) = IsLimit limit
 IsInRange (Relog limit) = IsLimit limit
 IsInRange (Serve port count stream) = IsPort port × IsCount count
-IsInRange (Subscribe to user name reads) = IsHost to × IsReads reads
+IsInRange (Master port heartbeat resend finish_after seconds most once) =
+    IsMasterPort port × IsHeartbeat heartbeat × IsResend resend × IsFinishAfter finish_after × IsSeconds seconds × IsMost (Some most)
+IsInRange (Subscribe to user name reads json) = IsHost to × IsReads reads
 IsInRange (Loopback most) = IsMost (Some most)
 
 -- the arguments name no options whose values are all in range
@@ -115,6 +175,12 @@ pub data Setting : Type 0 where
   the_name : Setting
   the_reads : Setting
   the_size : Setting
+  the_master_port : Setting
+  the_heartbeat : Setting
+  the_resend : Setting
+  the_finish_after : Setting
+  the_seconds : Setting
+  the_format : Setting
 
 -- the name of the option that sets it
 abbrev pub option_of : Setting → Text
@@ -128,18 +194,31 @@ option_of the_user = codes "user"
 option_of the_name = codes "name"
 option_of the_reads = codes "reads"
 option_of the_size = codes "most"
+option_of the_master_port = codes "port"
+option_of the_heartbeat = codes "heartbeat"
+option_of the_resend = codes "resend"
+option_of the_finish_after = codes "finish-after"
+option_of the_seconds = codes "seconds"
+option_of the_format = codes "json"
 
 -- the subcommands that have the option for this setting
 abbrev pub subcommands_with : Setting → List Text
 subcommands_with the_limit = codes "check" ∷ codes "show" ∷ codes "convert" ∷ codes "replay" ∷ codes "relog" ∷ []
 subcommands_with the_most = codes "convert" ∷ []
-subcommands_with the_size = codes "loopback" ∷ []
+subcommands_with the_size = codes "loopback" ∷ codes "master" ∷ []
 subcommands_with the_port = codes "serve" ∷ []
 subcommands_with the_count = codes "serve" ∷ []
 subcommands_with the_stream = codes "serve" ∷ []
+subcommands_with the_master_port = codes "master" ∷ []
+subcommands_with the_heartbeat = codes "master" ∷ []
+subcommands_with the_resend = codes "master" ∷ []
+subcommands_with the_finish_after = codes "master" ∷ []
+subcommands_with the_seconds = codes "master" ∷ []
+subcommands_with the_format = codes "convert" ∷ []
 subcommands_with _ = codes "subscribe" ∷ []
 
--- the option for this setting has a value in its range in a subcommand's matches
+-- The option for this setting has a value in its range in a subcommand's matches. A flag that
+-- excludes another option is in its range if not both are given.
 abbrev pub IsGood : Setting → List Row → Type 0
 IsGood the_limit rows = (limit : ℕ) × HasLimit rows limit × IsLimit limit
 IsGood the_most rows = (most : Option ℕ) × HasMost rows most × IsMost most
@@ -151,6 +230,12 @@ IsGood the_user rows = (user : Text) × HasText (codes "user") rows user
 IsGood the_name rows = (name : Text) × HasText (codes "name") rows name
 IsGood the_reads rows = (reads : ℕ) × HasNumber (codes "reads") rows reads × IsReads reads
 IsGood the_size rows = (most : ℕ) × HasNumber (codes "most") rows most × IsMost (Some most)
+IsGood the_master_port rows = (port : ℕ) × HasNumber (codes "port") rows port × IsMasterPort port
+IsGood the_heartbeat rows = (heartbeat : ℕ) × HasNumber (codes "heartbeat") rows heartbeat × IsHeartbeat heartbeat
+IsGood the_resend rows = (resend : ℕ) × HasNumber (codes "resend") rows resend × IsResend resend
+IsGood the_finish_after rows = (finish_after : Option ℕ) × HasOptional (codes "finish-after") rows finish_after × IsFinishAfter finish_after
+IsGood the_seconds rows = (seconds : Option ℕ) × HasOptional (codes "seconds") rows seconds × IsSeconds seconds
+IsGood the_format rows = (format : OutputFormat) × HasMost rows (most_in format) × HasFlag (codes "json") rows (json_in format)
 
 -- this subcommand has an option of this name, which has no value in its range in the matches
 pub record LacksValue (read : Text × List Row) (option : Text) : Type 0 where
@@ -161,7 +246,7 @@ pub record LacksValue (read : Text × List Row) (option : Text) : Type 0 where
 
 -- the names of the subcommands
 abbrev pub subcommand_names : List Text
-subcommand_names = codes "check" ∷ codes "show" ∷ codes "convert" ∷ codes "replay" ∷ codes "relog" ∷ codes "serve" ∷ codes "subscribe" ∷ codes "loopback" ∷ []
+subcommand_names = codes "check" ∷ codes "show" ∷ codes "convert" ∷ codes "replay" ∷ codes "relog" ∷ codes "serve" ∷ codes "master" ∷ codes "subscribe" ∷ codes "loopback" ∷ []
 
 -- no subcommand has this name, which is reported as `COMMAND`
 abbrev pub IsUnknown : Text → Text → Type 0
@@ -195,6 +280,12 @@ LacksNumber name least greatest rows (Clap error) = ⊥
 LacksNumber name least greatest rows (BadValue option) = (option.now ≡ name) × ¬ ((n : ℕ) × HasNumber name rows n × (least ≤ n) × (n ≤ greatest))
 LacksNumber name least greatest rows NoMemory = ⊥
 
+-- the error names this option, which is given and has no number from `least` to `greatest`
+abbrev pub LacksOptional : Text → ℕ → ℕ → List Row → WordsFault → Type 0
+LacksOptional name least greatest rows (Clap error) = ⊥
+LacksOptional name least greatest rows (BadValue option) = (option.now ≡ name) × ¬ ((n : Option ℕ) × HasOptional name rows n × IsWithin least greatest n)
+LacksOptional name least greatest rows NoMemory = ⊥
+
 -- the error names this option, which has no text
 abbrev pub LacksText : Text → List Row → WordsFault → Type 0
 LacksText name rows (Clap error) = ⊥
@@ -219,6 +310,11 @@ abbrev pub SayFraming : List Text → Framing → Type 0
 SayFraming words Plain = words ≡ []
 SayFraming words Chunked = words ≡ codes "--chunked" ∷ []
 
+-- the arguments that set a flag: the flag, or no argument
+abbrev pub SayFlag : Text → List Text → Bool → Type 0
+SayFlag flag words false = words ≡ []
+SayFlag flag words true = words ≡ flag ∷ []
+
 -- the arguments that give an option this number: `--option N` or `--option=N`
 abbrev pub SayNumber : Text → List Text → ℕ → Type 0
 SayNumber option words n =
@@ -227,6 +323,11 @@ SayNumber option words n =
 -- like `SayNumber`, or no argument for the default
 abbrev pub SayUsually : Text → Text → List Text → ℕ → Type 0
 SayUsually usual option words n = ((words ≡ []) × Writes usual n) ⊎ SayNumber option words n
+
+-- like `SayNumber`, or no argument for no number
+abbrev pub SayOptional : Text → List Text → Option ℕ → Type 0
+SayOptional option words None = words ≡ []
+SayOptional option words (Some n) = SayNumber option words n
 
 -- the text has a first character, which is not a hyphen
 abbrev pub BeginsPlainly : Text → Type 0
@@ -246,7 +347,7 @@ SayStream words stream =
 abbrev pub SayLimit : List Text → ℕ → Type 0
 SayLimit words limit = SayUsually DEFAULT_LIMIT.now (codes "--limit") words limit
 
--- the arguments that give `--most` this chunk size, or no argument for plain RecordIO
+-- the arguments that give `--most` this chunk size, or no argument for no chunks
 abbrev pub SayMost : List Text → Option ℕ → Type 0
 SayMost words None = words ≡ []
 SayMost words (Some most) = SayNumber (codes "--most") words most
@@ -257,13 +358,26 @@ SayReading name words framing limit =
     (program : Text) × (flags : List Text) × (limits : List Text) × SayFraming flags framing × SayLimit limits limit
     × (words ≡ program ∷ name ∷ (flags ++ limits))
 
--- like `SayReading`, but for `convert`, with `--most` last
-abbrev pub SayConvert : List Text → Framing → ℕ → Option ℕ → Type 0
-SayConvert words framing limit most =
-    (program : Text) × (flags : List Text) × (limits : List Text) × (sizes : List Text) × SayFraming flags framing
-    × SayLimit limits limit × SayMost sizes most × (words ≡ program ∷ codes "convert" ∷ (flags ++ (limits ++ sizes)))
+-- like `SayReading`, but for `show`, with `--json` last
+abbrev pub SayShow : List Text → Framing → ℕ → Bool → Type 0
+SayShow words framing limit json =
+    (program : Text) × (flags : List Text) × (limits : List Text) × (lines : List Text) × SayFraming flags framing
+    × SayLimit limits limit × SayFlag (codes "--json") lines json × (words ≡ program ∷ codes "show" ∷ (flags ++ (limits ++ lines)))
 
--- like `SayReading`, but for `replay` and `relog`, which have `--limit` only
+-- like `SayReading`, but for `convert`, with `--most` or `--json` last
+abbrev pub SayConvert : List Text → Framing → ℕ → OutputFormat → Type 0
+SayConvert words framing limit format =
+    (program : Text) × (flags : List Text) × (limits : List Text) × (sizes : List Text) × (lines : List Text) × SayFraming flags framing
+    × SayLimit limits limit × SayMost sizes (most_in format) × SayFlag (codes "--json") lines (json_in format)
+    × (words ≡ program ∷ codes "convert" ∷ (flags ++ (limits ++ (sizes ++ lines))))
+
+-- like `SayReading`, but for `replay`, with `--limit`, `--json`
+abbrev pub SayReplay : List Text → ℕ → Bool → Type 0
+SayReplay words limit json =
+    (program : Text) × (limits : List Text) × (lines : List Text) × SayLimit limits limit × SayFlag (codes "--json") lines json
+    × (words ≡ program ∷ codes "replay" ∷ (limits ++ lines))
+
+-- like `SayReading`, but for `relog`, which has `--limit` only
 abbrev pub SayLog : Text → List Text → ℕ → Type 0
 SayLog name words limit = (program : Text) × (limits : List Text) × SayLimit limits limit × (words ≡ program ∷ name ∷ limits)
 
@@ -273,12 +387,24 @@ SayServe words port count stream =
     (program : Text) × (ports : List Text) × (counts : List Text) × (streams : List Text) × SayNumber (codes "--port") ports port
     × SayNumber (codes "--count") counts count × SayStream streams stream × (words ≡ program ∷ codes "serve" ∷ (ports ++ (counts ++ streams)))
 
--- like `SayReading`, but for `subscribe`, with `--to`, `--user`, `--name`, `--reads`
-abbrev pub SaySubscribe : List Text → Text → Text → Text → ℕ → Type 0
-SaySubscribe words to user name reads =
-    (program : Text) × (tos : List Text) × (users : List Text) × (names : List Text) × (numbers : List Text) × SayText (codes "--to") tos to
-    × SayText (codes "--user") users user × SayText (codes "--name") names name × SayUsually DEFAULT_SUBSCRIBE_READS.now (codes "--reads") numbers reads
-    × (words ≡ program ∷ codes "subscribe" ∷ (tos ++ (users ++ (names ++ numbers))))
+-- like `SayReading`, but for `master`, with `--port`, `--heartbeat`, `--resend`, `--finish-after`,
+-- `--seconds`, `--most`, `--once`
+abbrev pub SayMaster : List Text → ℕ → ℕ → ℕ → Option ℕ → Option ℕ → ℕ → Bool → Type 0
+SayMaster words port heartbeat resend finish_after seconds most once =
+    (program : Text) × (ports : List Text) × (heartbeats : List Text) × (resends : List Text) × (finishes : List Text) × (times : List Text)
+    × (sizes : List Text) × (flags : List Text) × SayNumber (codes "--port") ports port
+    × SayUsually DEFAULT_HEARTBEAT.now (codes "--heartbeat") heartbeats heartbeat × SayUsually DEFAULT_RESEND.now (codes "--resend") resends resend
+    × SayOptional (codes "--finish-after") finishes finish_after × SayOptional (codes "--seconds") times seconds
+    × SayUsually DEFAULT_MASTER_CHUNK.now (codes "--most") sizes most × SayFlag (codes "--once") flags once
+    × (words ≡ program ∷ codes "master" ∷ (ports ++ (heartbeats ++ (resends ++ (finishes ++ (times ++ (sizes ++ flags)))))))
+
+-- like `SayReading`, but for `subscribe`, with `--to`, `--user`, `--name`, `--reads`, `--json`
+abbrev pub SaySubscribe : List Text → Text → Text → Text → ℕ → Bool → Type 0
+SaySubscribe words to user name reads json =
+    (program : Text) × (tos : List Text) × (users : List Text) × (names : List Text) × (numbers : List Text) × (lines : List Text)
+    × SayText (codes "--to") tos to × SayText (codes "--user") users user × SayText (codes "--name") names name
+    × SayUsually DEFAULT_SUBSCRIBE_READS.now (codes "--reads") numbers reads × SayFlag (codes "--json") lines json
+    × (words ≡ program ∷ codes "subscribe" ∷ (tos ++ (users ++ (names ++ (numbers ++ lines)))))
 
 -- like `SayReading`, but for `loopback`, with `--most`
 abbrev pub SayLoopback : List Text → ℕ → Type 0
@@ -288,10 +414,11 @@ SayLoopback words most =
 -- the arguments are the program's name, a subcommand and its options in order, each at most once
 abbrev pub SayPlainly : List Text → Options → Type 0
 SayPlainly words (Check framing limit) = SayReading (codes "check") words framing limit
-SayPlainly words (Show framing limit) = SayReading (codes "show") words framing limit
-SayPlainly words (Convert framing limit most) = SayConvert words framing limit most
-SayPlainly words (Replay limit) = SayLog (codes "replay") words limit
+SayPlainly words (Show framing limit json) = SayShow words framing limit json
+SayPlainly words (Convert framing limit format) = SayConvert words framing limit format
+SayPlainly words (Replay limit json) = SayReplay words limit json
 SayPlainly words (Relog limit) = SayLog (codes "relog") words limit
 SayPlainly words (Serve port count stream) = SayServe words port count stream
-SayPlainly words (Subscribe to user name reads) = SaySubscribe words to user name reads
+SayPlainly words (Master port heartbeat resend finish_after seconds most once) = SayMaster words port heartbeat resend finish_after seconds most once
+SayPlainly words (Subscribe to user name reads json) = SaySubscribe words to user name reads json
 SayPlainly words (Loopback most) = SayLoopback words most

@@ -6,7 +6,7 @@ use mes_double_http::Host;
 use mes_frame::{Limit, default_record_limit};
 use mes_json::Text;
 use mes_stream::Framing;
-use mesosev_stream::ChunkSize;
+use mesosev_stream::{ChunkSize, OutputFormat};
 use thiserror::Error;
 use uuid::Uuid;
 
@@ -21,6 +21,33 @@ pub const MIN_PORT: u32 = 1;
 
 /// The greatest port that `serve` accepts.
 pub const MAX_PORT: u32 = 65_535;
+
+/// The least port that `master` accepts: 0 picks a free port.
+pub const MIN_MASTER_PORT: u32 = 0;
+
+/// The greatest number of seconds that `master` accepts.
+pub const MAX_SECONDS: u32 = 1_000_000_000;
+
+/// The least value of `--heartbeat`, in seconds.
+pub const MIN_HEARTBEAT: u32 = 1;
+
+/// The default of `--heartbeat`, in seconds.
+pub const DEFAULT_HEARTBEAT: &str = "15";
+
+/// The least value of `--resend`, in seconds: 0 for never.
+pub const MIN_RESEND: u32 = 0;
+
+/// The default of `--resend`, in seconds.
+pub const DEFAULT_RESEND: &str = "10";
+
+/// The least value of `--finish-after`, in seconds.
+pub const MIN_FINISH_AFTER: u32 = 0;
+
+/// The least value of `--seconds`.
+pub const MIN_SECONDS: u32 = 1;
+
+/// The default of `--most` in `master`, in bytes: each event is in one chunk.
+pub const DEFAULT_MASTER_CHUNK: &str = "16777216";
 
 /// The least number of connections that `serve` accepts for `--count`.
 pub const MIN_CONNECTIONS: u32 = 1;
@@ -53,27 +80,31 @@ pub enum Options {
         /// The largest record, in bytes.
         limit: Limit,
     },
-    /// `show [--chunked] [--limit N]`: prints each event as soon as it is decoded.
+    /// `show [--chunked] [--limit N] [--json]`: prints each event as soon as it is decoded.
     Show {
         /// The framing of the input.
         framing: Framing,
         /// The largest record, in bytes.
         limit: Limit,
+        /// Whether the events are printed as JSON Lines.
+        json: bool,
     },
-    /// `convert [--chunked] [--limit N] [--most M]`: re-encodes the events, as plain RecordIO or as
-    /// a chunked body.
+    /// `convert [--chunked] [--limit N] [--most M] [--json]`: re-encodes the events, as plain
+    /// RecordIO, as a chunked body or as JSON Lines.
     Convert {
         /// The framing of the input.
         framing: Framing,
         /// The largest record that is read or written, in bytes.
         limit: Limit,
-        /// The size of each chunk in bytes; `None` for plain RecordIO.
-        most: Option<ChunkSize>,
+        /// The form in which the events are written.
+        format: OutputFormat,
     },
-    /// `replay [--limit N]`: replays a session log, and prints the outcome.
+    /// `replay [--limit N] [--json]`: replays a session log, and prints the outcome.
     Replay {
         /// The largest record, in bytes.
         limit: Limit,
+        /// Whether the session is printed as a JSON object.
+        json: bool,
     },
     /// `relog [--limit N]`: rewrites a session log in the newest version.
     Relog {
@@ -89,8 +120,26 @@ pub enum Options {
         /// The id of the master's first stream.
         stream: Uuid,
     },
-    /// `subscribe --to ADDR --user U --name N [--reads R]`: subscribes to a master, and prints its
-    /// events.
+    /// `master --port P [--heartbeat S] [--resend S] [--finish-after S] [--seconds S] [--most M]
+    /// [--once]`: runs a live test master. Times are in seconds.
+    Master {
+        /// The TCP port on which the master listens; 0 for a free one.
+        port: u16,
+        /// The time between two HEARTBEATs.
+        heartbeat: u32,
+        /// The time after which an unacknowledged update is sent again; 0 for never.
+        resend: u32,
+        /// The time for which a task runs; `None` for ever.
+        finish_after: Option<u32>,
+        /// The time for which the master runs; `None` for ever.
+        seconds: Option<u32>,
+        /// The largest chunk, in bytes.
+        most: ChunkSize,
+        /// Whether the master ends after a TEARDOWN.
+        once: bool,
+    },
+    /// `subscribe --to ADDR --user U --name N [--reads R] [--json]`: subscribes to a master, and
+    /// prints its events.
     Subscribe {
         /// The address of the master.
         to: Host,
@@ -100,6 +149,8 @@ pub enum Options {
         name: Text,
         /// The maximum number of reads of the response body.
         reads: u32,
+        /// Whether the events are printed as JSON Lines.
+        json: bool,
     },
     /// `loopback [--most M]`: runs a test master and a scheduler over a socket, in one process.
     Loopback {

@@ -2,17 +2,20 @@
 ghost use Rattle.std.specs.Prelude.{◌≡◌, false, true, map, IfOk, MatchResult, IfErr, []};
 ghost use Rattle.clap.specs.Words.{App, HasKind, app_of, fault_of, rule_of, subcommand_of};
 ghost use Rattle.clap.specs.Words.{subcommand_rows_of, with_subcommand};
-ghost use Rattle.mesosev_args.specs.CommandLine.{bare_app, chunked_rule, limit_rule, most_rule, number_rule, text_rule};
+ghost use Rattle.mesosev_args.specs.CommandLine.{bare_app, chunked_rule, json_rule, limit_rule, most_rule, number_rule, text_rule};
 ghost use Rattle.mesosev_args.specs.CommandLine.{IsCommand, command_app, reading_app};
 
 use crate::args::{DEFAULT_LIMIT, VERSION};
-use crate::{check, convert, loopback, relog, replay, serve, show, subscribe};
+use crate::{check, convert, loopback, master, relog, replay, serve, show, subscribe};
 use clap::{Arg, ArgAction, ArgMatches, Command, Error};
 use mes_frame::{
     MAX_CHUNK, MAX_RECORD_LIMIT, MIN_CHUNK, MIN_RECORD_LIMIT, max_chunk, max_record_limit,
 };
 use std::alloc::{AllocError, Global};
 use std::convert::AsStr;
+
+/// The help text of the flag `--json`, if it prints events.
+pub const JSON_LINES_HELP: &str = "Print JSON Lines: each event as canonical JSON and LF";
 
 /// Matches the arguments against the command; the first one is the program's name.
 ///
@@ -41,6 +44,7 @@ fn command<'a>(alloc: Global) -> Result<Command<'a>, AllocError>
     let command = with(command, replay::command(alloc))?;
     let command = with(command, relog::command(alloc))?;
     let command = with(command, serve::command(alloc))?;
+    let command = with(command, master::command(alloc))?;
     let command = with(command, subscribe::command(alloc))?;
     with(command, loopback::command(alloc))
 }
@@ -96,6 +100,17 @@ fn chunked_option<'a>(alloc: Global) -> Arg<'a>
         .long("chunked")
         .action(ArgAction::SetTrue)
         .help("Input is a chunked HTTP/1.1 body, not plain RecordIO")
+}
+
+/// Returns the flag `--json`.
+pub fn json_option<'a>(alloc: Global, help: &'a str) -> Arg<'a>
+    ensures rule { rule_of result ≡ json_rule }
+    ensures local { result.global ≡ false }
+{
+    Arg::new(alloc, "json")
+        .long("json")
+        .action(ArgAction::SetTrue)
+        .help(help)
 }
 
 /// Returns the option `--limit N`. Clap checks its range too.

@@ -9,7 +9,7 @@ ghost use Rattle.mesosev_args.specs.declared.args.Options.{Options};
 
 use crate::args::{Options, WordsFault};
 use crate::command::matches_of;
-use crate::{check, convert, loopback, relog, replay, serve, show, subscribe};
+use crate::{check, convert, loopback, master, relog, replay, serve, show, subscribe};
 use clap::ArgMatches;
 use std::alloc::Global;
 use std::convert::AsStr;
@@ -50,6 +50,7 @@ fn read(alloc: Global, name: &str, found: &ArgMatches<'_>) -> Result<Options, Wo
         "replay" => replay::read(found),
         "relog" => relog::read(found),
         "serve" => serve::read(found),
+        "master" => master::read(found),
         "subscribe" => subscribe::read(alloc, found),
         "loopback" => loopback::read(found),
         _ => Err(WordsFault::BadValue("COMMAND")),

@@ -5,12 +5,12 @@ ghost use Rattle.mesosev_args.specs.CommandLine.{IsCommand, show_app};
 ghost use Rattle.mesosev_args.specs.NamedOptions.{Reads};
 
 use crate::args::{Options, WordsFault};
-use crate::command::reading_command;
-use crate::values::{framing_of, limit_of};
+use crate::command::{JSON_LINES_HELP, json_option, reading_command};
+use crate::values::{flag_of, framing_of, limit_of};
 use clap::{ArgMatches, Command};
 use std::alloc::{AllocError, Global};
 
-/// Returns `show [--chunked] [--limit N]` as clap's command.
+/// Returns `show [--chunked] [--limit N] [--json]` as clap's command.
 pub fn command<'a>(alloc: Global) -> Result<Command<'a>, AllocError>
     ensures { IfOk result (IsCommand show_app) }
 {
@@ -19,7 +19,8 @@ pub fn command<'a>(alloc: Global) -> Result<Command<'a>, AllocError>
         "show",
         "Print each event of standard input as it arrives",
         "Example: mesosev show < FILE",
-    )
+    )?
+    .arg(json_option(alloc, JSON_LINES_HELP))
 }
 
 /// Reads the option values from clap's matches.
@@ -30,5 +31,10 @@ pub fn read(found: &ArgMatches<'_>) -> Result<Options, WordsFault>
 {
     let limit = limit_of(found)?;
     let framing = framing_of(found);
-    Ok(Options::Show { framing, limit })
+    let json = flag_of(found, "json");
+    Ok(Options::Show {
+        framing,
+        limit,
+        json,
+    })
 }

@@ -9,14 +9,14 @@ ghost use Rattle.mesosev_args.specs.NamedOptions.{the_name, the_reads, the_to, t
 use crate::args::{
     DEFAULT_SUBSCRIBE_READS, MAX_SUBSCRIBE_READS, MIN_SUBSCRIBE_READS, Options, WordsFault,
 };
-use crate::command::{number_option, text_option};
-use crate::values::{number_in, text_of};
+use crate::command::{JSON_LINES_HELP, json_option, number_option, text_option};
+use crate::values::{flag_of, number_in, text_of};
 use clap::{Arg, ArgMatches, Command};
 use mes_double_http::Host;
 use mes_json::Text;
 use std::alloc::{AllocError, Global};
 
-/// Returns `subscribe --to ADDR --user U --name N [--reads R]` as clap's command.
+/// Returns `subscribe --to ADDR --user U --name N [--reads R] [--json]` as clap's command.
 pub fn command<'a>(alloc: Global) -> Result<Command<'a>, AllocError>
     ensures { IfOk result (IsCommand subscribe_app) }
 {
@@ -24,7 +24,8 @@ pub fn command<'a>(alloc: Global) -> Result<Command<'a>, AllocError>
         .arg(to_option(alloc))?
         .arg(user_option(alloc))?
         .arg(name_option(alloc))?
-        .arg(reads_option(alloc))
+        .arg(reads_option(alloc))?
+        .arg(json_option(alloc, JSON_LINES_HELP))
 }
 
 // The command without its options.
@@ -82,11 +83,13 @@ pub fn read(alloc: Global, found: &ArgMatches<'_>) -> Result<Options, WordsFault
     let to = to_of(found)?;
     let user = user_of(alloc, found)?;
     let name = name_of(alloc, found)?;
+    let json = flag_of(found, "json");
     Ok(Options::Subscribe {
         to,
         user,
         name,
         reads,
+        json,
     })
 }
 

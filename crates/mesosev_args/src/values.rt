@@ -1,8 +1,9 @@
 //! Values of command-line options, read from clap's matches of a subcommand.
 ghost use Rattle.std.specs.Prelude.{◌≤◌, IfOk, IfErr};
 ghost use Rattle.clap.specs.Words.{found_of, rows_of};
-ghost use Rattle.mesosev_args.specs.NamedOptions.{HasFraming, HasLimit, HasMost, HasNumber, HasText, IsBad};
-ghost use Rattle.mesosev_args.specs.NamedOptions.{IsLimit, IsMost, LacksNumber, LacksText, the_limit, the_most};
+ghost use Rattle.mesosev_args.specs.NamedOptions.{HasFlag, HasFraming, HasLimit, HasMost, HasNumber, HasOptional, HasText};
+ghost use Rattle.mesosev_args.specs.NamedOptions.{IsBad, IsLimit, IsMost, IsWithin, LacksNumber, LacksOptional};
+ghost use Rattle.mesosev_args.specs.NamedOptions.{LacksText, the_limit, the_most};
 
 use crate::args::WordsFault;
 use clap::ArgMatches;
@@ -37,6 +38,37 @@ pub fn number_in(
     match matches.get_one::<u32>(name) {
         Some(number) if least <= number && number <= greatest => Ok(number),
         _ => Err(WordsFault::BadValue(name)),
+    }
+}
+
+/// Returns the value of the option `name`, from `least` to `greatest`, if the option is given.
+///
+/// Errors: `BadValue` if the value is out of this range.
+pub fn optional_number_in(
+    matches: &ArgMatches<'_>,
+    name: &'static str,
+    least: u32,
+    greatest: u32,
+) -> Result<Option<u32>, WordsFault>
+    ensures ok { IfOk result (HasOptional name.now (rows_of (found_of matches.now))) }
+    ensures ranged { IfOk result (IsWithin least greatest) }
+    ensures err { IfErr result (LacksOptional name.now least greatest
+        (rows_of (found_of matches.now))) }
+{
+    match matches.try_get_one::<u32>(name) {
+        Ok(None) => Ok(None),
+        Ok(Some(number)) if least <= number && number <= greatest => Ok(Some(number)),
+        _ => Err(WordsFault::BadValue(name)),
+    }
+}
+
+/// Returns whether the flag `name` is set.
+pub fn flag_of(matches: &ArgMatches<'_>, name: &'static str) -> bool
+    ensures { HasFlag name.now (rows_of (found_of matches.now)) result }
+{
+    match matches.get_one::<bool>(name) {
+        Some(is_set) => is_set,
+        None => false,
     }
 }
 

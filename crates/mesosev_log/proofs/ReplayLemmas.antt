@@ -16,7 +16,7 @@ use Rattle.mesosev_stream.specs.declared.exit_status.ExitStatus.{ExitStatus}
 use Rattle.mesosev_stream.specs.declared.exit_status.ExitStatus.TheVariants as exit
 use Rattle.mesosev_stream.specs.declared.outcome.RunOutcome.{RunOutcome}
 use Rattle.mesosev_stream.specs.declared.limits.TheConstants.{MAX_READS}
-use Rattle.mesosev_log.specs.Replaying.{ReadsLogInput, ReplaysRead, Replays}
+use Rattle.mesosev_log.specs.Replaying.{ReadsLogInput, ReplaysRead, ReplaysReadJson, Replays, ReplaysJson}
 use Rattle.mesosev_log.specs.Relogging.{RelogsRead, Relogs, WritesLog}
 
 -- the list was empty before the reads, so that it has exactly the entries that were read
@@ -30,6 +30,11 @@ read_all limit input rest before entries outcome none (w, more, consumes, is, en
 pub replays : (limit : ℕ) (input rest out printed : Device) (ended : RunOutcome) (entries : List Entry) (outcome : Result Report Stop)
     → ((w : List ℕ) × ReadsLogInput limit input rest w entries outcome) → ReplaysRead entries outcome out printed ended → Replays limit input rest out printed ended
 replays limit input rest out printed ended entries outcome (w, reads) rests = (w, entries, outcome, reads, rests)
+
+pub replays_json : (limit : ℕ) (input rest out printed err reported : Device) (ended : RunOutcome) (entries : List Entry) (outcome : Result Report Stop)
+    → ((w : List ℕ) × ReadsLogInput limit input rest w entries outcome) → ReplaysReadJson entries outcome out printed err reported ended
+    → ReplaysJson limit input rest out printed err reported ended
+replays_json limit input rest out printed err reported ended entries outcome (w, reads) rests = (w, entries, outcome, reads, rests)
 
 pub relogs : (limit : ℕ) (input rest out written err reported : Device) (status : ExitStatus) (entries : List Entry) (outcome : Result Report Stop)
     → ((w : List ℕ) × ReadsLogInput limit input rest w entries outcome) → RelogsRead limit entries outcome out written err reported status → Relogs limit input rest out written err reported status

@@ -1,2 +1,3 @@
 pub mod Relogging
+pub mod SessionJson
 pub mod Replaying

@@ -4,6 +4,7 @@ use Rattle.std.specs.Io.KnownBytes.{Consumes}
 use Rattle.mes_frame.specs.Devices.{Device}
 use Rattle.mes_msg.specs.declared.entry.Entry.{Entry}
 use Rattle.mes_stream.specs.Lines.{fault_text}
+use Rattle.mes_stream.specs.declared.fault.Fault.TheVariants.{NoMemory}
 use Rattle.mes_stream.specs.declared.fault.Report.{Report}
 use Rattle.mes_stream.specs.declared.fault.Stop.{Stop}
 use Rattle.mes_session.specs.Logs.{EndsLog}
@@ -11,7 +12,8 @@ use Rattle.mes_session.specs.Held.{Held}
 use Rattle.mes_session.specs.Refusal.{Refusal}
 use Rattle.mes_session.specs.History.{Represents, IsLegal, StopsAt}
 use Rattle.mes_session.specs.Printed.{refusal_text, report_text}
-use Rattle.mesosev_stream.specs.Printing.{LacksMemory, Prints}
+use Rattle.mesosev_log.specs.SessionJson.{session_line}
+use Rattle.mesosev_stream.specs.Printing.{LacksMemory, Prints, TellsFault}
 use Rattle.mesosev_stream.specs.declared.exit_status.ExitStatus.TheVariants as exit
 use Rattle.mesosev_stream.specs.declared.outcome.RunOutcome.{RunOutcome}
 use Rattle.mesosev_stream.specs.declared.limits.TheConstants.{MAX_READS}
@@ -29,6 +31,14 @@ ReplaysEntries entries out printed ended =
     × (Prints out printed (report_text (length entries) held) exit.Success ended ⊎ LacksMemory out printed ended))
     ⊎ ((before : ℕ) × (refusal : Refusal) × StopsAt entries before refusal × Prints out printed (refusal_text refusal before ++ 10 ∷ []) exit.Fault ended)
 
+-- like `ReplaysEntries`, but the session is printed as one JSON object, and errors to `err`
+abbrev pub ReplaysEntriesJson : List Entry → Device → Device → Device → Device → RunOutcome → Type 0
+ReplaysEntriesJson entries out printed err reported ended =
+    ((held : Held) × IsLegal entries × Represents entries held
+    × ((Prints out printed (session_line (length entries) held) exit.Success ended × (reported ≡ err))
+    ⊎ TellsFault (fault_text NoMemory 0 ++ 10 ∷ []) out printed err reported ended))
+    ⊎ ((before : ℕ) × (refusal : Refusal) × StopsAt entries before refusal × TellsFault (refusal_text refusal before ++ 10 ∷ []) out printed err reported ended)
+
 -- the entries that were read were replayed, if the log ended; otherwise the error was printed
 abbrev pub ReplaysRead : List Entry → Result Report Stop → Device → Device → RunOutcome → Type 0
 ReplaysRead entries (Ok report) out printed ended = ReplaysEntries entries out printed ended
@@ -39,3 +49,13 @@ abbrev pub Replays : ℕ → Device → Device → Device → Device → RunOutc
 Replays limit input rest out printed ended =
     (w : List ℕ) × (entries : List Entry) × (outcome : Result Report Stop) × ReadsLogInput limit input rest w entries outcome
     × ReplaysRead entries outcome out printed ended
+
+-- like `ReplaysRead` and `Replays`, but the session is printed as one JSON object, and errors to `err`
+abbrev pub ReplaysReadJson : List Entry → Result Report Stop → Device → Device → Device → Device → RunOutcome → Type 0
+ReplaysReadJson entries (Ok report) out printed err reported ended = ReplaysEntriesJson entries out printed err reported ended
+ReplaysReadJson entries (Err stop) out printed err reported ended = TellsFault (fault_text stop.fault stop.used ++ 10 ∷ []) out printed err reported ended
+
+abbrev pub ReplaysJson : ℕ → Device → Device → Device → Device → Device → Device → RunOutcome → Type 0
+ReplaysJson limit input rest out printed err reported ended =
+    (w : List ℕ) × (entries : List Entry) × (outcome : Result Report Stop) × ReadsLogInput limit input rest w entries outcome
+    × ReplaysReadJson entries outcome out printed err reported ended

@@ -1,7 +1,7 @@
 #![tactic(auto)]
 //! The subcommands `replay` and `relog` of `mesosev`, over any devices.
 //!
-//! [`replay`] prints the session that a session log leads to. [`relog`] writes the entries of a log
+//! [`replay`] prints the session that a session log leads to, [`replay_json`] as JSON. [`relog`] writes the entries of a log
 //! again, in version 2. Both read version 1 and version 2. The contracts state the bytes read, the
 //! bytes printed and the outcome.
 //!
@@ -12,6 +12,9 @@
 
 mod relogging;
 mod replaying;
+mod replaying_json;
+mod session_json;
 
 pub use relogging::relog;
 pub use replaying::replay;
+pub use replaying_json::replay_json;

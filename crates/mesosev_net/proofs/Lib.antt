@@ -1,3 +1,4 @@
+mod ExportedLemmas
 mod GivenLemmas
 mod IdLemmas
 mod LoopLemmas

@@ -12,6 +12,7 @@
 //! `mesosev_serve_tests`. The tests of the sockets run the program: see `tests/net.py`.
 
 mod both_ends;
+mod exporting;
 mod framework;
 mod ids;
 mod interleaved;
@@ -22,6 +23,7 @@ mod subscribing;
 mod theorems;
 
 pub use both_ends::{LOOPBACK_STREAM, loopback};
+pub use exporting::subscribe_json;
 pub use framework::framework_id;
 pub use ids::stream_ids;
 pub use interleaved::MAX_UNREAD;

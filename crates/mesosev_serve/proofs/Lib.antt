@@ -1,4 +1,5 @@
 mod CarriedLemmas
+mod ExportLemmas
 mod OpeningLemmas
 mod StreamLemmas
 mod WritingLemmas

@@ -8,3 +8,4 @@ pub mod Writing
 pub mod Lines
 pub mod Serving
 pub mod Subscribing
+pub mod Exporting

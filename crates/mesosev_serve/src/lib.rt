@@ -11,6 +11,7 @@
 //! `mesosev_serve_tests`.
 
 mod connection;
+mod exporting;
 mod lines;
 mod opening_events;
 mod outgoing;
@@ -23,6 +24,7 @@ mod subscribing;
 mod theorems;
 
 pub use connection::Served;
+pub use exporting::export_over;
 pub use lines::WRITE_FAILED;
 pub use request::call_name;
 pub use serve::serve_one;

@@ -139,7 +139,7 @@ pub fn report_unsent<O: Sink>(out: &mut O, fault: &SendFault) -> RunOutcome
 }
 
 /// Prints the reason for which a head opens no stream. The status is `Fault`.
-fn report_refused<O: Sink>(out: &mut O, fault: &HeadFault) -> RunOutcome
+pub(crate) fn report_refused<O: Sink>(out: &mut O, fault: &HeadFault) -> RunOutcome
     ensures { Prints (O.device out.old) (O.device out.new)
         (refused_line fault.now) ExitStatus.Fault result }
 {

@@ -60,7 +60,7 @@ events_taken d new piece old now fed takes framing limit v values represents =
     takes_wider Spells (IsRefused Spells IsEventRefusal) IsEventRefusal refused_of HoldsData nothing_ahead new framing limit v values piece old now fed (takes nothing_ahead framing limit v values represents)
 
 -- `Spelt` holds for w and the piece after w, for any result for the piece
-spelt_of : (framing : Framing) (limit : ℕ) (f : Reading EventReader) (w piece : List ℕ) (values old now : List Event) (fed : Result (Unit {0}) ReadingStop) → old ≡ []
+pub spelt_of : (framing : Framing) (limit : ℕ) (f : Reading EventReader) (w piece : List ℕ) (values old now : List Event) (fed : Result (Unit {0}) ReadingStop) → old ≡ []
     → ReadingTakes HoldsData Spells IsEventRefusal f framing limit w values piece old now fed → Spelt framing limit (w ++ piece) (values ++ now)
 spelt_of framing limit f w piece values old now (Ok done) none (more, added, s) =
     (w ++ piece, [], sym (append-nil (w ++ piece)), lit≤ tt, inl (rw (added, none) (goes_of HoldsData Spells f.stream framing limit (w ++ piece) (values ++ more) s.0)))
@@ -73,7 +73,7 @@ spelt_of framing limit f w piece values old now (Err (reading_stop.Fault fault))
     let used = s.used in
     (s.front, s.byte ∷ s.rest, s.is, omega (arith, last, whole, used, length-append s.front (s.byte ∷ s.rest)), inl (rw (added, none) s.live))
 
-none_out : (a : Device) (sent : ℕ) → sent ≡ 0 → WentOut a.bytes a.bytes a.counts a.counts [] 0 sent
+pub none_out : (a : Device) (sent : ℕ) → sent ≡ 0 → WentOut a.bytes a.bytes a.counts a.counts [] 0 sent
 none_out a sent none = record { out = Appends-nil a.bytes; good = (refl, refl); count = omega (arith, none); calls = (omega arith, omega arith) }
 
 -- The lines of `events` were printed; the effect of printing `more` events after them.
@@ -201,7 +201,7 @@ outcome_printed Lines framing limit reads input rest out mid late w events outco
     let went = goes_counted out mid (lines_from 1 events) sent shown in
     (w, events, inl (outcome, (consumes, ends), prints_behind out mid late (lines_from 1 events) (outcome_line (length events) outcome ++ 10 ∷ []) sent (outcome_status outcome) ended went.0 went.1 prints))
 
-byte_few : (framing : Framing) (limit : ℕ) (w : List ℕ) (events : List Event) (outcome : Result Report Stop) → ByteEnds framing Spells IsEventRefusal limit w events outcome → length events ≤ length w
+pub byte_few : (framing : Framing) (limit : ℕ) (w : List ℕ) (events : List Event) (outcome : Result Report Stop) → ByteEnds framing Spells IsEventRefusal limit w events outcome → length events ≤ length w
 byte_few framing limit w events (Ok report) at =
     let fewer = ends_few framing limit at.stream events at.ends in
     let whole = ap length at.is ∙ length-append at.stream report.rest.items in

@@ -50,7 +50,7 @@ holds_all first new a b events i n number above below is holds =
     (subst (λ (es : List Event). HoldsText first new a b (lines_from n es)) (take_all i events above) holds, omega (arith, above, below, is))
 
 -- the buffered lines are written, so that no line is buffered
-sends : (first mid new : LineBuffer) (a b c : Device) (w : List ℕ) → HoldsText first mid a b w → WentOut b.bytes c.bytes b.counts c.counts mid.held.items mid.sent new.sent → new.held.items ≡ [] → SendsText first new a c w
+pub sends : (first mid new : LineBuffer) (a b c : Device) (w : List ℕ) → HoldsText first mid a b w → WentOut b.bytes c.bytes b.counts c.counts mid.held.items mid.sent new.sent → new.held.items ≡ [] → SendsText first new a c w
 sends first mid new a b c w holds out none = (out_then a.bytes b.bytes c.bytes a.counts b.counts c.counts (first.held.items ++ w) mid.held.items first.sent mid.sent new.sent holds out, none)
 
 pub sends_shown : (first mid new : LineBuffer) (a b c : Device) (n : ℕ) (events : List Event) (shown : PrintProgress) → ShowsFrom (HoldsText first mid a b) n events shown → WentOut b.bytes c.bytes b.counts c.counts mid.held.items mid.sent new.sent → new.held.items ≡ []

@@ -45,6 +45,10 @@ PrintsText old new text (Err fault) = IsCutOff old new [] text fault.sent × Sto
 abbrev pub Tells : Device → Device → List ℕ → Type 0
 Tells old new text = (printed : Result (Unit {0}) WriteFault) × PrintsText old new text printed
 
+-- the line of an error was printed to `err`, and nothing to `out`; the status is `Fault`
+abbrev pub TellsFault : List ℕ → Device → Device → Device → Device → RunOutcome → Type 0
+TellsFault line out printed err reported ended = Tells err reported line × (printed ≡ out) × (ended ≡ Status exit.Fault)
+
 -- the outcome of a run after its last text was printed: the status `meant`, or the failed output
 abbrev pub outcome_after : {T : Type 0} → ExitStatus → Result T WriteFault → RunOutcome
 outcome_after meant (Ok done) = Status meant

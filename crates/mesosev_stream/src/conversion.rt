@@ -3,18 +3,31 @@
 ghost use Rattle.std.specs.Prelude.{◌≡◌, OnOk, IfErr, List, ℕ};
 ghost use Rattle.mes_stream.specs.Sending.{StopsSending, WroteAll};
 ghost use Rattle.mesosev_stream.specs.Converting.{Converts, IsConverted, Sends};
+ghost use Rattle.mesosev_stream.specs.JsonLines.{IsLinesOf};
 
 use crate::chunk_size::ChunkSize;
 use crate::exit_status::ExitStatus;
+use crate::json_lines::encode_lines;
 use crate::limits::MAX_READS;
 use crate::print::{print_fault, print_send_fault};
-use mes_frame::{Limit, Sink, Source};
+use mes_frame::{Limit, Sink, Source, write_all};
 use mes_msg::Event;
 use mes_stream::{Framing, SendFault, read_events, write_plain, write_stream};
 use std::alloc::Global;
 
-/// Reads a stream to its end, and writes its events in canonical JSON: as plain RecordIO, or in
-/// chunks of `most` bytes. Buffers all events.
+/// The form in which events are written.
+#[derive(Clone, Copy, Debug, PartialEq, Eq)]
+pub enum OutputFormat {
+    /// Plain RecordIO.
+    Plain,
+    /// RecordIO in chunks of this size.
+    Chunked(ChunkSize),
+    /// JSON Lines: each event and LF.
+    JsonLines,
+}
+
+/// Reads a stream to its end, and writes its events in canonical JSON, in the given format. Buffers
+/// all events.
 ///
 /// On an error in the stream nothing is written to `out`; the error is printed to `err`, and the
 /// status is `Fault`. Errors in writing to `err` are ignored.
@@ -22,13 +35,13 @@ pub fn convert<I: Source, O: Sink, E: Sink>(
     alloc: Global,
     framing: Framing,
     limit: Limit,
-    most: Option<ChunkSize>,
+    format: OutputFormat,
     input: &mut I,
     out: &mut O,
     err: &mut E,
 ) -> ExitStatus
     // The bytes read, the events written, the error printed, and the status.
-    ensures { Converts framing limit most
+    ensures { Converts framing limit format
         (I.device input.old) (I.device input.new)
         (O.device out.old) (O.device out.new)
         (E.device err.old) (E.device err.new)
@@ -36,7 +49,7 @@ pub fn convert<I: Source, O: Sink, E: Sink>(
 {
     let mut events = Vec::new(alloc);
     match read_events(alloc, input, framing, limit, MAX_READS, &mut events) {
-        Ok(_report) => send(alloc, events.as_slice(), limit, most, out, err),
+        Ok(_report) => send(alloc, events.as_slice(), limit, format, out, err),
         Err(stop) => {
             let _ = print_fault(err, &stop.fault, stop.used);
             ExitStatus::Fault
@@ -49,16 +62,16 @@ fn send<O: Sink, E: Sink>(
     alloc: Global,
     events: &[Event],
     limit: Limit,
-    most: Option<ChunkSize>,
+    format: OutputFormat,
     out: &mut O,
     err: &mut E,
 ) -> ExitStatus
-    ensures { Sends limit most events.now
+    ensures { Sends limit format events.now
         (O.device out.old) (O.device out.new)
         (E.device err.old) (E.device err.new)
         result }
 {
-    match write_events(alloc, events, limit, most, out) {
+    match write_events(alloc, events, limit, format, out) {
         Ok(()) => ExitStatus::Success,
         Err(fault) => {
             let _ = print_send_fault(err, &fault);
@@ -67,21 +80,39 @@ fn send<O: Sink, E: Sink>(
     }
 }
 
-/// Writes the events as plain RecordIO, or in chunks of `most` bytes.
+/// Writes the events in the given format.
 fn write_events<O: Sink>(
     alloc: Global,
     events: &[Event],
     limit: Limit,
-    most: Option<ChunkSize>,
+    format: OutputFormat,
     out: &mut O,
 ) -> Result<(), SendFault>
-    ensures ok { OnOk result ((w : List ℕ) × IsConverted limit most events.now w
+    ensures ok { OnOk result ((w : List ℕ) × IsConverted limit format events.now w
         × WroteAll O.device out.old out.new w) }
-    ensures err { IfErr result (StopsSending O.device (IsConverted limit most events.now)
+    ensures err { IfErr result (StopsSending O.device (IsConverted limit format events.now)
         limit events.now out.old out.new) }
 {
-    match most {
-        Some(most) => write_stream(alloc, out, events, limit, most.get()),
-        None => write_plain(alloc, out, events, limit),
+    match format {
+        OutputFormat::Plain => write_plain(alloc, out, events, limit),
+        OutputFormat::Chunked(most) => write_stream(alloc, out, events, limit, most.get()),
+        OutputFormat::JsonLines => write_lines(alloc, events, limit, out),
     }
+}
+
+/// Writes the events as JSON Lines.
+fn write_lines<O: Sink>(
+    alloc: Global,
+    events: &[Event],
+    limit: Limit,
+    out: &mut O,
+) -> Result<(), SendFault>
+    ensures ok { OnOk result ((w : List ℕ) × IsLinesOf limit events.now w
+        × WroteAll O.device out.old out.new w) }
+    ensures err { IfErr result (StopsSending O.device (IsLinesOf limit events.now)
+        limit events.now out.old out.new) }
+{
+    let lines = encode_lines(alloc, events, limit)?;
+    write_all(out, lines.as_slice())?;
+    Ok(())
 }

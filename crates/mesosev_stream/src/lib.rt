@@ -1,9 +1,10 @@
 #![tactic(auto)]
 //! The subcommands `check`, `show` and `convert` of `mesosev`, over any devices.
 //!
-//! [`follow`] prints the events of a stream (`show`) or counts them (`check`). [`convert`] decodes
-//! a whole stream and encodes its events again. The contracts state the bytes read, the bytes
-//! printed and the outcome, also if an output fails or no memory is left.
+//! [`follow`] prints the events of a stream (`show`) or counts them (`check`). [`export`] writes
+//! them as JSON Lines (`show --json`). [`convert`] decodes a whole stream and encodes its events
+//! again. The contracts state the bytes read, the bytes printed and the outcome, also if an output
+//! fails or no memory is left.
 //!
 //!     let outcome = follow(alloc, Detail::Lines, Framing::Chunked, limit, MAX_READS, input, out);
 //!     let status = finish(outcome, out.is_closed(), err);
@@ -14,7 +15,9 @@
 mod chunk_size;
 mod conversion;
 mod exit_status;
+mod exporter;
 mod follower;
+mod json_lines;
 mod limits;
 mod line_buffer;
 mod outcome;
@@ -23,8 +26,9 @@ mod print;
 mod theorems;
 
 pub use chunk_size::ChunkSize;
-pub use conversion::convert;
+pub use conversion::{OutputFormat, convert};
 pub use exit_status::ExitStatus;
+pub use exporter::export;
 pub use follower::{Detail, follow};
 pub use limits::{MAX_LINE_BUFFER, MAX_READS};
 pub use outcome::{RunOutcome, finish};

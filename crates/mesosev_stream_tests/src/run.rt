@@ -2,7 +2,9 @@
 
 use mes_frame::{Limit, MemorySink, MemorySource, MemoryStop};
 use mes_stream::Framing;
-use mesosev_stream::{Detail, ExitStatus, MAX_READS, RunOutcome, convert, finish, follow};
+use mesosev_stream::{
+    Detail, ExitStatus, MAX_READS, OutputFormat, RunOutcome, convert, finish, follow,
+};
 use std::alloc::{AllocGlobal, Global};
 use std::process::Abort;
 use std::test::Fail;
@@ -267,7 +269,7 @@ fn converted(alloc: Global, out: &mut MemorySink, err: &mut MemorySink) -> ExitS
         alloc,
         Framing::Plain,
         Limit::USUAL,
-        None,
+        OutputFormat::Plain,
         &mut source,
         out,
         err,

@@ -1,9 +1,10 @@
 //! How a live test master handles ACCEPT: the master launches only tasks that fit the offers.
-ghost use Rattle.std.specs.Prelude.{◌≡◌, None as none, option_copied, IfOk, OnOk};
+ghost use Rattle.std.specs.Prelude.{◌≡◌, ◌<◌, None as none, option_copied, IfOk, OnOk, length, take};
 ghost use Rattle.mes_msg.specs.Call.TheVariants as of;
 ghost use Rattle.mes_session_fit.specs.Fits.{Fits};
 ghost use Rattle.mes_session_state.specs.Calls.{accept_call};
 ghost use Rattle.mes_double_master.specs.Masters.{named, handled};
+ghost use Rattle.mes_double_live.specs.Lives.{OpensBy};
 ghost use Rattle.mes_double_live.specs.Moving.{Moves};
 
 use super::Live;
@@ -20,7 +21,6 @@ use mes_model_schema::Part;
 use mes_msg::{Accept, Operation};
 use mes_session_calls::make_accept;
 use std::alloc::Global;
-use std::mem;
 
 /// The message for the tasks of an ACCEPT that names an offer that is not outstanding.
 const NOT_THERE: &str = "An offer is not outstanding";
@@ -49,6 +49,7 @@ impl Live {
         ensures status { IfOk result (λ reply. reply.status
             ≡ (handled self.old.master (of.Accept framework.now body.now)
             (option_copied stream.entry)).status) }
+        ensures opened { IfOk result (λ reply. OpensBy reply.opened reply.status) }
     {
         let plan = launch_plan(self.alloc, &self.master, body)?;
         let ids = body.offer_ids.as_slice();
@@ -231,36 +232,58 @@ fn is_among(tasks: &[TaskInfo], id: &Id) -> bool {
     tasks.iter().any(|task| &task.task_id == id)
 }
 
+/// How far the tasks of a plan are known to fit.
+#[derive(Clone, Copy, Debug, PartialEq, Eq)]
+struct Fitting {
+    /// The first `count` tasks fit.
+    count: usize,
+    /// The number of tasks after them that are tried next.
+    step: usize,
+}
+
 /// Retains only the tasks that fit the offers, each beside those retained before it.
 fn fit_each(alloc: Global, offers: &TakenOffers<'_>, plan: &mut LaunchPlan) -> Result<(), NoMemory>
     ensures { OnOk result (Fits offers.now plan.new.kept.items) }
 {
-    let tasks = mem::replace(&mut plan.kept, Vec::new(alloc));
-    for task in tasks {
-        fit_one(alloc, offers, task, plan)?;
+    let mut fitting = Fitting { count: 0, step: 1 };
+    for _ in 0..u64::MAX {
+        if fitting.count >= plan.kept.len() {
+            break;
+        }
+        fitting = fit_more(alloc, offers, plan, fitting)?;
     }
+    plan.kept.truncate(fitting.count);
     Ok(())
 }
 
-/// Retains a task, unless it does not fit the offers beside the retained ones.
-fn fit_one(
+/// Tries whether the next tasks fit the offers beside those before them. One task that does not fit
+/// is refused; of several, fewer are tried next.
+fn fit_more(
     alloc: Global,
     offers: &TakenOffers<'_>,
-    task: TaskInfo,
     plan: &mut LaunchPlan,
-) -> Result<(), NoMemory>
-    requires { Fits offers.now plan.old.kept.items }
-    ensures { OnOk result (Fits offers.now plan.new.kept.items) }
+    fitting: Fitting,
+) -> Result<Fitting, NoMemory>
+    requires before { Fits offers.now (take fitting.count plan.old.kept.items) }
+    requires more { fitting.count < length plan.old.kept.items }
+    ensures { IfOk result (λ next. Fits offers.now (take next.count plan.new.kept.items)) }
 {
-    plan.kept.push(task)?;
-    let Some(resource) = unfitting_resource(offers, plan.kept.as_slice()) else {
-        return Ok(());
+    let until = fitting
+        .count
+        .saturating_add(fitting.step)
+        .min(plan.kept.len());
+    let Some(resource) = unfitting_resource(offers, &plan.kept[..until]) else {
+        let step = fitting.step.saturating_mul(2);
+        return Ok(Fitting { count: until, step });
     };
-    let text = message(alloc, "Offers have too little of ", resource.name.as_str())?;
-    if let Some(task) = plan.kept.pop() {
-        plan.refused.push(task_error(alloc, &task, text)?)?;
+    if fitting.step > 1 {
+        let step = fitting.step / 2;
+        return Ok(Fitting { step, ..fitting });
     }
-    Ok(())
+    let text = message(alloc, "Offers have too little of ", resource.name.as_str())?;
+    let task = plan.kept.remove(fitting.count);
+    plan.refused.push(task_error(alloc, &task, text)?)?;
+    Ok(fitting)
 }
 
 fn message(alloc: Global, front: &str, name: &str) -> Result<Text, NoMemory> {

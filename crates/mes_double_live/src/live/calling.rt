@@ -2,9 +2,10 @@
 ghost use Rattle.std.specs.Prelude.{◌≡◌, [], option_copied, IfOk};
 ghost use Rattle.mes_session_state.specs.Calls.{tasks_of};
 ghost use Rattle.mes_double_master.specs.Masters.{handled};
+ghost use Rattle.mes_double_live.specs.Lives.{OpensBy};
 ghost use Rattle.mes_double_live.specs.Moving.{Moves};
 
-use super::Live;
+use super::{Live, MAX_AHEAD};
 use crate::fault::LiveFault;
 use crate::reply::{EndedStream, Reply};
 use http::StatusCode;
@@ -27,12 +28,14 @@ impl Live {
     ///
     /// A SUBSCRIBE with status 200 ends the current stream with an ERROR, and opens a new one. On
     /// it are SUBSCRIBED, a HEARTBEAT, the unacknowledged updates, the offers that are free, and
-    /// the events from outside that waited.
+    /// the events from outside that waited, as far as [`Live::passed`] sends none later.
     pub fn call(&mut self, stream: Option<&StreamId>, call: &Call) -> Result<Reply, LiveFault>
         // The test master changes only by its own deeds, and what these launch fits.
         ensures moves { Moves self.old.master self.new.master }
         ensures status { IfOk result (λ reply. reply.status
             ≡ (handled self.old.master call.now (option_copied stream.entry)).status) }
+        // Only a response with status 200 opens a stream.
+        ensures opened { IfOk result (λ reply. OpensBy reply.opened reply.status) }
     {
         let reply = self.reply_to(stream, call)?;
         self.send_due()?;
@@ -43,6 +46,7 @@ impl Live {
         ensures moves { Moves self.old.master self.new.master }
         ensures status { IfOk result (λ reply. reply.status
             ≡ (handled self.old.master call.now (option_copied stream.entry)).status) }
+        ensures opened { IfOk result (λ reply. OpensBy reply.opened reply.status) }
     {
         match call {
             Call::Subscribe { .. } => self.subscribe(stream, call),
@@ -66,6 +70,7 @@ impl Live {
         ensures moves { Moves self.old.master self.new.master }
         ensures status { IfOk result (λ reply. reply.status
             ≡ (handled self.old.master call.now (option_copied stream.entry)).status) }
+        ensures opened { IfOk result (λ reply. OpensBy reply.opened reply.status) }
     {
         let old = self.current();
         let answer = self.handle(stream, call)?;
@@ -93,7 +98,7 @@ impl Live {
         self.beat()?;
         self.resend_all()?;
         self.send_due()?;
-        self.deliver_waiting()?;
+        self.deliver_waiting(MAX_AHEAD)?;
         Ok(ended)
     }
 
@@ -125,6 +130,7 @@ impl Live {
         ensures moves { Moves self.old.master self.new.master }
         ensures status { IfOk result (λ reply. reply.status
             ≡ (handled self.old.master call.now (option_copied stream.entry)).status) }
+        ensures opened { IfOk result (λ reply. OpensBy reply.opened reply.status) }
     {
         let old = self.current();
         let answer = self.handle(stream, call)?;

@@ -8,11 +8,10 @@ use mes_double_master::MasterRefusal;
 use mes_json::NoMemory;
 use mes_model::{Id, Offer, TaskStatus};
 use mes_msg::Event;
-use std::mem;
 
 impl Live {
     /// Takes an event from outside. OFFERS join the stock, and SUBSCRIBED is dropped. Any other
-    /// event is sent on the current stream, or without one on the next; RESCIND and UPDATE go
+    /// event is sent on the current stream, or without one on the next, in order; RESCIND and UPDATE go
     /// through the master, and are dropped if the master refuses them.
     pub fn told(&mut self, event: Event) -> Result<(), LiveFault>
         // The test master changes only by its own deeds, and what these launch fits.
@@ -35,42 +34,56 @@ impl Live {
         self.cluster.stock(offers)
     }
 
-    /// Sends an event on the current stream, or stores it for the next.
+    /// Sends an event on the current stream; or stores it, if there is no stream or earlier events
+    /// wait.
     fn take(&mut self, event: Event) -> Result<(), LiveFault>
         ensures { Moves self.old.master self.new.master }
     {
-        if !self.has_stream() {
+        if !self.has_stream() || !self.waiting.is_empty() {
             return self.store(event);
         }
         self.deliver(&event)?;
         self.send_due()
     }
 
-    /// Stores an event for the next stream.
+    /// Stores an event, to be sent later.
     fn store(&mut self, event: Event) -> Result<(), LiveFault>
         ensures { self.new ≡ self.old }
     {
-        match self.waiting.push(event) {
+        match self.waiting.push_back(event) {
             Ok(()) => Ok(()),
             Err(_) => Err(LiveFault::NoMemory),
         }
     }
 
-    /// Sends the events that waited for a stream.
-    pub(super) fn deliver_waiting(&mut self) -> Result<(), LiveFault>
+    /// Sends events that waited for a stream, until more than `most` bytes are pending. So a client
+    /// that reads its stream receives any number of them in little memory.
+    pub(super) fn deliver_waiting(&mut self, most: usize) -> Result<(), LiveFault>
         ensures { Moves self.old.master self.new.master }
     {
-        let waiting = self.take_waiting();
-        for event in &waiting {
-            self.deliver(event)?;
+        for _ in 0..self.waiting.len() {
+            if self.out.pending().len() > most {
+                return Ok(());
+            }
+            self.deliver_first()?;
         }
         Ok(())
     }
 
-    fn take_waiting(&mut self) -> Vec<Event>
+    /// Sends the first event that waited for a stream, if there is one.
+    fn deliver_first(&mut self) -> Result<(), LiveFault>
+        ensures { Moves self.old.master self.new.master }
+    {
+        match self.take_first() {
+            Some(event) => self.deliver(&event),
+            None => Ok(()),
+        }
+    }
+
+    fn take_first(&mut self) -> Option<Event>
         ensures { self.new ≡ self.old }
     {
-        mem::replace(&mut self.waiting, Vec::new(self.alloc))
+        self.waiting.pop_front()
     }
 
     /// Sends an event from outside on the current stream.

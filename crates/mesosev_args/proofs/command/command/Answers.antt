@@ -2,7 +2,7 @@ use Rattle.std.proofs.Common.{◌≡◌, ◌∙◌, IfOk, Result, ap, subst}
 use Rattle.std.specs.declared.alloc.AllocError.{AllocError}
 use Rattle.clap.specs.Words.{App, Shape, app_of, with_subcommand}
 use Rattle.clap.specs.declared.builder.command.Command.{Command}
-use Rattle.mesosev_args.specs.CommandLine.{check_app, convert_app, loopback_app, relog_app, replay_app, serve_app, show_app, subscribe_app}
+use Rattle.mesosev_args.specs.CommandLine.{check_app, convert_app, loopback_app, master_app, relog_app, replay_app, serve_app, show_app, subscribe_app}
 use Rattle.mesosev_args.proofs.command.command.Goals as goal
 
 -- a command with one more subcommand
@@ -21,5 +21,6 @@ returns c =
     let replay = next _ _ _ replay_app.top (c.in_ok-command-4.ensures replay_app c.command-4.ensures) convert in
     let relog = next _ _ _ relog_app.top (c.in_ok-command-5.ensures relog_app c.command-5.ensures) replay in
     let serve = next _ _ _ serve_app.top (c.in_ok-command-6.ensures serve_app c.command-6.ensures) relog in
-    let subscribe = next _ _ _ subscribe_app.top (c.in_ok-command-7.ensures subscribe_app c.command-7.ensures) serve in
-    last _ _ _ loopback_app.top (c.with-8.ensures loopback_app c.command-8.ensures) subscribe
+    let master = next _ _ _ master_app.top (c.in_ok-command-7.ensures master_app c.command-7.ensures) serve in
+    let subscribe = next _ _ _ subscribe_app.top (c.in_ok-command-8.ensures subscribe_app c.command-8.ensures) master in
+    last _ _ _ loopback_app.top (c.with-9.ensures loopback_app c.command-9.ensures) subscribe

@@ -1,0 +1,3 @@
+mod RunLemmas
+mod ServedLemmas
+mod LiveDeskLemmas

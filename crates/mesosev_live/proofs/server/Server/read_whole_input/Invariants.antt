@@ -1,0 +1,5 @@
+use Rattle.mesosev_live.specs.Desks.{Keeps}
+use Rattle.mesosev_live.proofs.server.Server.read_whole_input.Given as goal
+
+abbrev pub invariant-loop : goal.invariant-loop
+invariant-loop g l = Keeps g.D.Desk.follows l.fn.self.desk l.self.desk
