@@ -14,7 +14,7 @@ import time
 
 TOP = os.path.dirname(os.path.dirname(os.path.realpath(__file__)))
 DEFAULT = "/opt/rattle/bin/rt"
-# The toolchains with which the program of this commit, or an earlier commit, was proved. README.md ends with them.
+# The toolchains with which this commit, or an earlier one, was proved. README.md ends with them.
 PROVED_WITH = ("rattle-kit-13b logic dac8208d650f15bf", "rattle-kit-13f logic dac8208d650f15bf")
 
 
