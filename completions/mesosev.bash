@@ -9,13 +9,13 @@ _mesosev_commands() {
 # _mesosev_options COMMAND: prints its options, or without a command those of mesosev itself
 _mesosev_options() {
   case $1 in
-    check) echo --chunked --limit ;;
-    show) echo --chunked --limit --json ;;
-    convert) echo --chunked --limit --most --json ;;
+    check) echo --chunked --lines --calls --limit ;;
+    show) echo --chunked --lines --calls --limit --json ;;
+    convert) echo --chunked --lines --calls --limit --most --json ;;
     replay) echo --limit --json ;;
     relog) echo --limit ;;
     serve) echo --port --count --stream ;;
-    master) echo --port --heartbeat --resend --finish-after --seconds --most --once ;;
+    master) echo --port --heartbeat --resend --finish-after --seconds --most --fault --faults --seed --once ;;
     subscribe) echo --to --user --name --reads --json ;;
     loopback) echo --most ;;
   esac
@@ -43,6 +43,7 @@ _mesosev() {
     '<,'*) _mesosev_files "$word" && return ;;
     --limit,* | --most,* | --port,* | --count,* | --stream,*) return ;;
     --heartbeat,* | --resend,* | --finish-after,* | --seconds,*) return ;;
+    --fault,* | --faults,* | --seed,*) return ;;
     --to,* | --user,* | --name,* | --reads,* | =,* | *,=) return ;;
   esac
   command=$(_mesosev_command)

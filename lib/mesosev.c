@@ -51,6 +51,32 @@ uint32_t mes_c_decoder_many(struct handle *handle, const uint8_t *bytes, size_t 
 uint32_t mes_c_decoder_finish(struct handle *handle, struct result *result);
 void mes_c_decoder_free(struct handle handle);
 
+uint32_t mes_c_session_new(struct handle *slot);
+uint32_t mes_c_session_heard(struct handle *handle, const uint8_t *bytes, size_t length, uint64_t *size, uint8_t *text, size_t room);
+uint32_t mes_c_session_said(struct handle *handle, const uint8_t *bytes, size_t length, uint64_t *size, uint8_t *text, size_t room);
+uint32_t mes_c_session_check(struct handle *handle, const uint8_t *bytes, size_t length, uint64_t *size, uint8_t *text, size_t room);
+uint32_t mes_c_session_subscribe(struct handle *handle, const uint8_t *bytes, size_t length, uint64_t *size, uint8_t *text, size_t room);
+uint32_t mes_c_session_acknowledge(struct handle *handle, size_t index, uint64_t *size, uint8_t *text, size_t room);
+void mes_c_session_broken(struct handle *handle);
+uint32_t mes_c_session_connected(struct handle *handle);
+uint64_t mes_c_session_entries(struct handle *handle);
+uint32_t mes_c_session_framework(struct handle *handle, uint64_t *size, uint8_t *text, size_t room);
+uint64_t mes_c_session_offer_count(struct handle *handle);
+uint32_t mes_c_session_offer_at(struct handle *handle, size_t index, uint64_t *size, uint8_t *text, size_t room);
+uint32_t mes_c_session_offer(struct handle *handle, const uint8_t *id, size_t length, uint64_t *size, uint8_t *text, size_t room);
+uint64_t mes_c_session_owed_count(struct handle *handle);
+uint32_t mes_c_session_owed_at(struct handle *handle, size_t index, uint64_t *size, uint8_t *text, size_t room);
+void mes_c_session_free(struct handle handle);
+uint32_t mes_c_log_header(uint64_t *size, uint8_t *text, size_t room);
+uint32_t mes_c_log_event(const uint8_t *bytes, size_t length, uint64_t *size, uint8_t *text, size_t room);
+uint32_t mes_c_log_call(const uint8_t *bytes, size_t length, uint64_t *size, uint8_t *text, size_t room);
+uint32_t mes_c_log_broken(uint64_t *size, uint8_t *text, size_t room);
+uint32_t mes_c_log_replay(const uint8_t *bytes, size_t length, struct handle *slot, uint64_t *size, uint8_t *text, size_t room);
+uint32_t mes_c_write_event(const uint8_t *bytes, size_t length, uint64_t *size, uint8_t *text, size_t room);
+uint32_t mes_c_write_chunk(const uint8_t *bytes, size_t length, uint64_t *size, uint8_t *text, size_t room);
+uint32_t mes_c_fits(const uint8_t *offers, size_t offers_length, const uint8_t *tasks, size_t tasks_length, uint64_t *size,
+                    uint8_t *text, size_t room);
+
 static int is_null(const void *bytes, size_t length)
 {
     return bytes == NULL && length > 0;
@@ -185,4 +211,278 @@ PUBLIC void mes_decoder_free(mes_decoder *decoder)
 
     if (decoder != NULL)
         mes_c_decoder_free(handle);
+}
+
+PUBLIC uint32_t mes_session_new(mes_session **session)
+{
+    struct handle slot = {NULL};
+
+    if (session == NULL)
+        return MES_BAD_POINTER;
+    uint32_t status = mes_c_session_new(&slot);
+    *session = (mes_session *)slot.at;
+    return status;
+}
+
+/* A proved function of a session that reads bytes, and one that reads an index. */
+typedef uint32_t of_bytes(struct handle *, const uint8_t *, size_t, uint64_t *, uint8_t *, size_t);
+typedef uint32_t of_index(struct handle *, size_t, uint64_t *, uint8_t *, size_t);
+
+/* Returns the length of a text to the caller, and ends the text, or none, with a NUL. */
+static uint32_t give_text(uint32_t status, char *text, size_t room, size_t *size, uint64_t length)
+{
+    if (size != NULL)
+        *size = length;
+    end_text(text, room, status != MES_NO_ROOM ? length : 0);
+    return status;
+}
+
+static uint32_t with_bytes(of_bytes *call, mes_session *session, const void *bytes, size_t length, char *text, size_t room, size_t *size)
+{
+    struct handle handle = {(uint8_t *)session};
+    uint8_t *to = text != NULL ? (uint8_t *)text : &nothing;
+    uint64_t counted = 0;
+
+    if (session == NULL || is_null(bytes, length) || is_null(text, room))
+        return MES_BAD_POINTER;
+    uint32_t status = call(&handle, readable(bytes), length, &counted, to, room > 0 ? room - 1 : 0);
+    return give_text(status, text, room, size, counted);
+}
+
+static uint32_t with_index(of_index *call, mes_session *session, size_t index, char *text, size_t room, size_t *size)
+{
+    struct handle handle = {(uint8_t *)session};
+    uint8_t *to = text != NULL ? (uint8_t *)text : &nothing;
+    uint64_t counted = 0;
+
+    if (session == NULL || is_null(text, room))
+        return MES_BAD_POINTER;
+    uint32_t status = call(&handle, index, &counted, to, room > 0 ? room - 1 : 0);
+    return give_text(status, text, room, size, counted);
+}
+
+PUBLIC uint32_t mes_session_heard(mes_session *session, const void *event, size_t length, char *text, size_t room, size_t *size)
+{
+    return with_bytes(mes_c_session_heard, session, event, length, text, room, size);
+}
+
+/* Returns the length of the first line. size: receives that of its text, without CR and LF. */
+static size_t first_line(const char *lines, size_t length, size_t *size)
+{
+    const char *feed = memchr(lines, '\n', length);
+    size_t used = feed != NULL ? (size_t)(feed - lines) : length;
+
+    *size = feed != NULL && used > 0 && lines[used - 1] == '\r' ? used - 1 : used;
+    return used + (feed != NULL);
+}
+
+PUBLIC uint32_t mes_session_heard_lines(mes_session *session, const void *lines, size_t length, size_t *heard,
+                                        char *text, size_t room, size_t *size)
+{
+    const char *at = lines;
+    size_t applied = 0, event;
+    uint32_t status = MES_GOOD;
+
+    if (session == NULL || is_null(lines, length) || is_null(text, room))
+        return MES_BAD_POINTER;
+    give_text(status, text, room, size, 0);
+    for (size_t used = 0, line; used < length && status == MES_GOOD; used += line) {
+        line = first_line(at + used, length - used, &event);
+        if (event > 0) {
+            status = mes_session_heard(session, at + used, event, text, room, size);
+            applied += status == MES_GOOD;
+        }
+    }
+    if (heard != NULL)
+        *heard = applied;
+    return status;
+}
+
+PUBLIC uint32_t mes_session_said(mes_session *session, const void *call, size_t length, char *text, size_t room, size_t *size)
+{
+    return with_bytes(mes_c_session_said, session, call, length, text, room, size);
+}
+
+PUBLIC uint32_t mes_session_check(mes_session *session, const void *call, size_t length, char *text, size_t room, size_t *size)
+{
+    return with_bytes(mes_c_session_check, session, call, length, text, room, size);
+}
+
+PUBLIC uint32_t mes_session_subscribe(mes_session *session, const void *info, size_t length, char *text, size_t room, size_t *size)
+{
+    return with_bytes(mes_c_session_subscribe, session, info, length, text, room, size);
+}
+
+PUBLIC uint32_t mes_session_acknowledge(mes_session *session, size_t index, char *text, size_t room, size_t *size)
+{
+    return with_index(mes_c_session_acknowledge, session, index, text, room, size);
+}
+
+PUBLIC uint32_t mes_session_acknowledge_lines(mes_session *session, char *text, size_t room, size_t *size)
+{
+    size_t used = 0, call;
+    uint32_t status;
+
+    if (session == NULL || is_null(text, room))
+        return MES_BAD_POINTER;
+    /* A byte is kept for the NUL: the line feed takes the place of that of the call. */
+    while ((status = mes_session_acknowledge(session, 0, room > 1 ? text + used : NULL, room > 1 ? room - used - 1 : 0, &call)) == MES_GOOD) {
+        text[used + call] = '\n';
+        used += call + 1;
+    }
+    if (used > 0 || status == MES_ABSENT)
+        return give_text(MES_GOOD, text, room, size, used);
+    return give_text(status, text, room, size, status == MES_NO_ROOM ? call + 1 : call);
+}
+
+PUBLIC void mes_session_broken(mes_session *session)
+{
+    struct handle handle = {(uint8_t *)session};
+
+    if (session != NULL)
+        mes_c_session_broken(&handle);
+}
+
+PUBLIC uint32_t mes_session_connected(mes_session *session)
+{
+    struct handle handle = {(uint8_t *)session};
+
+    return session != NULL ? mes_c_session_connected(&handle) : 0;
+}
+
+PUBLIC uint64_t mes_session_entries(mes_session *session)
+{
+    struct handle handle = {(uint8_t *)session};
+
+    return session != NULL ? mes_c_session_entries(&handle) : 0;
+}
+
+PUBLIC uint32_t mes_session_framework(mes_session *session, char *text, size_t room, size_t *size)
+{
+    struct handle handle = {(uint8_t *)session};
+    uint8_t *to = text != NULL ? (uint8_t *)text : &nothing;
+    uint64_t counted = 0;
+
+    if (session == NULL || is_null(text, room))
+        return MES_BAD_POINTER;
+    uint32_t status = mes_c_session_framework(&handle, &counted, to, room > 0 ? room - 1 : 0);
+    return give_text(status, text, room, size, counted);
+}
+
+PUBLIC size_t mes_session_offer_count(mes_session *session)
+{
+    struct handle handle = {(uint8_t *)session};
+
+    return session != NULL ? mes_c_session_offer_count(&handle) : 0;
+}
+
+PUBLIC uint32_t mes_session_offer_at(mes_session *session, size_t index, char *text, size_t room, size_t *size)
+{
+    return with_index(mes_c_session_offer_at, session, index, text, room, size);
+}
+
+PUBLIC uint32_t mes_session_offer(mes_session *session, const void *id, size_t length, char *text, size_t room, size_t *size)
+{
+    return with_bytes(mes_c_session_offer, session, id, length, text, room, size);
+}
+
+PUBLIC size_t mes_session_owed_count(mes_session *session)
+{
+    struct handle handle = {(uint8_t *)session};
+
+    return session != NULL ? mes_c_session_owed_count(&handle) : 0;
+}
+
+PUBLIC uint32_t mes_session_owed_at(mes_session *session, size_t index, char *text, size_t room, size_t *size)
+{
+    return with_index(mes_c_session_owed_at, session, index, text, room, size);
+}
+
+PUBLIC void mes_session_free(mes_session *session)
+{
+    struct handle handle = {(uint8_t *)session};
+
+    if (session != NULL)
+        mes_c_session_free(handle);
+}
+
+/* A proved function that makes a record of bytes, and one that makes a record of nothing. */
+typedef uint32_t of_text(const uint8_t *, size_t, uint64_t *, uint8_t *, size_t);
+typedef uint32_t of_nothing(uint64_t *, uint8_t *, size_t);
+
+static uint32_t record_of(of_text *call, const void *bytes, size_t length, char *text, size_t room, size_t *size)
+{
+    uint8_t *to = text != NULL ? (uint8_t *)text : &nothing;
+    uint64_t counted = 0;
+
+    if (is_null(bytes, length) || is_null(text, room))
+        return MES_BAD_POINTER;
+    uint32_t status = call(readable(bytes), length, &counted, to, room > 0 ? room - 1 : 0);
+    return give_text(status, text, room, size, counted);
+}
+
+static uint32_t record_alone(of_nothing *call, char *text, size_t room, size_t *size)
+{
+    uint8_t *to = text != NULL ? (uint8_t *)text : &nothing;
+    uint64_t counted = 0;
+
+    if (is_null(text, room))
+        return MES_BAD_POINTER;
+    uint32_t status = call(&counted, to, room > 0 ? room - 1 : 0);
+    return give_text(status, text, room, size, counted);
+}
+
+PUBLIC uint32_t mes_log_header(char *text, size_t room, size_t *size)
+{
+    return record_alone(mes_c_log_header, text, room, size);
+}
+
+PUBLIC uint32_t mes_log_event(const void *event, size_t length, char *text, size_t room, size_t *size)
+{
+    return record_of(mes_c_log_event, event, length, text, room, size);
+}
+
+PUBLIC uint32_t mes_log_call(const void *call, size_t length, char *text, size_t room, size_t *size)
+{
+    return record_of(mes_c_log_call, call, length, text, room, size);
+}
+
+PUBLIC uint32_t mes_log_broken(char *text, size_t room, size_t *size)
+{
+    return record_alone(mes_c_log_broken, text, room, size);
+}
+
+PUBLIC uint32_t mes_log_replay(const void *bytes, size_t length, mes_session **session, char *text, size_t room, size_t *size)
+{
+    struct handle slot = {NULL};
+    uint8_t *to = text != NULL ? (uint8_t *)text : &nothing;
+    uint64_t counted = 0;
+
+    if (session == NULL || is_null(bytes, length) || is_null(text, room))
+        return MES_BAD_POINTER;
+    uint32_t status = mes_c_log_replay(readable(bytes), length, &slot, &counted, to, room > 0 ? room - 1 : 0);
+    *session = (mes_session *)slot.at;
+    return give_text(status, text, room, size, counted);
+}
+
+PUBLIC uint32_t mes_write_event(const void *event, size_t length, char *text, size_t room, size_t *size)
+{
+    return record_of(mes_c_write_event, event, length, text, room, size);
+}
+
+PUBLIC uint32_t mes_write_chunk(const void *bytes, size_t length, char *text, size_t room, size_t *size)
+{
+    return record_of(mes_c_write_chunk, bytes, length, text, room, size);
+}
+
+PUBLIC uint32_t mes_fits(const void *offers, size_t offers_length, const void *tasks, size_t tasks_length, char *text, size_t room,
+                         size_t *size)
+{
+    uint8_t *to = text != NULL ? (uint8_t *)text : &nothing;
+    uint64_t counted = 0;
+
+    if (is_null(offers, offers_length) || is_null(tasks, tasks_length) || is_null(text, room))
+        return MES_BAD_POINTER;
+    uint32_t status = mes_c_fits(readable(offers), offers_length, readable(tasks), tasks_length, &counted, to, room > 0 ? room - 1 : 0);
+    return give_text(status, text, room, size, counted);
 }

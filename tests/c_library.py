@@ -1,10 +1,11 @@
 #!/usr/bin/env python3
 """Builds the C library by lib/build, and compares its results with the output of the built command.
 
-Builds and runs tests/c_reader.c (also under valgrind), examples/reader.c, .cc and .go, and the tests
-of lib/mesosev.py. Parts whose compiler is not installed are left out, and valgrind if it is not
-installed. PROGRAM is the proved command by default. -k takes one of `symbols`, `readers`,
-`examples`, `pages` and `python`.
+Builds and runs tests/c_reader.c and tests/c_session.c (also under valgrind and with the address
+sanitizer), examples/reader.c, .cc and .go, and the tests and schedulers of lib/mesosev.hpp,
+lib/go/mesosev, lib/rust and lib/mesosev.py. Parts whose compiler is not installed are left out, with a
+line, and valgrind if it is not installed. PROGRAM is the proved command by default. -k takes one of
+`symbols`, `readers`, `sessions`, `examples`, `pages`, `cpp`, `go`, `rust` and `python`.
 """
 import itertools
 import json
@@ -17,7 +18,8 @@ import tempfile
 
 sys.dont_write_bytecode = True
 import support
-from support import TOP, Cases, chunked, parser, record
+from languages import CXX, VALGRIND, Languages
+from support import TOP, chunked, parser, record
 
 NAMES = {
     "mes_version",
@@ -28,10 +30,15 @@ NAMES = {
     "mes_decoder_many",
     "mes_decoder_finish",
     "mes_decoder_free",
+    *(f"mes_session_{it}" for it in "new free heard heard_lines said check subscribe acknowledge acknowledge_lines broken connected entries framework offer_count".split()),
+    *(f"mes_session_{it}" for it in "offer_at offer owed_count owed_at".split()),
+    *(f"mes_log_{it}" for it in "header event call broken replay".split()),
+    "mes_write_event",
+    "mes_write_chunk",
+    "mes_fits",
 }
 DEFAULT, LARGEST = 4_194_304, 67_108_864
 FRAMINGS = {0: [], 1: ["--chunked"]}
-VALGRIND = ["valgrind", "-q", "--error-exitcode=9", "--leak-check=full", "--show-leak-kinds=all", "--errors-for-leak-kinds=all"]
 BEAT = support.BEAT.encode()
 # 1,024 records of this event fill a piece of 65,536 bytes.
 MANY, MANY_COUNT = b'{"type":"ERROR","error":{"message":"%s"}}' % (b"x" * 22), 5000
@@ -85,16 +92,107 @@ BROKEN_CALLS = {
 }
 
 
-class Tests(Cases):
-    def __init__(self, program, folder, word):
-        super().__init__(word)
-        self.program, self.folder = program, folder
-        self.prefix = os.path.join(folder, "prefix")
-        self.environment = dict(os.environ, PKG_CONFIG_PATH=f"{self.prefix}/lib/pkgconfig", LD_LIBRARY_PATH=f"{self.prefix}/lib")
+OFFERED = (
+    '{"id":{"value":"%s"},"framework_id":{"value":"F1"},"agent_id":{"value":"%s"},"hostname":"h",'
+    '"resources":[{"name":"cpus","type":"SCALAR","scalar":{"value":1.0}}]}'
+)
+LAUNCHED = '{"name":"t","task_id":{"value":"%s"},"agent_id":{"value":"%s"},"resources":[{"name":"cpus","type":"SCALAR","scalar":{"value":%s}}]}'
+KEY = '{"agent_id":{"value":"A1"},"task_id":{"value":"T1"},"uuid":"AAECAwQFBgcICQoLDA0ODw=="}'
+UPDATE = '{"type":"UPDATE","update":{"status":{"task_id":{"value":"T1"},"state":"TASK_RUNNING","agent_id":{"value":"A1"},"uuid":"AAECAwQFBgcICQoLDA0ODw=="}}}'
 
-    def run(self, args, data=b""):
-        return subprocess.run(args, input=data, stdout=subprocess.PIPE, stderr=subprocess.PIPE, env=self.environment)
 
+def call_of(type, body, framework="F1"):
+    return '{"type":"%s","framework_id":{"value":"%s"},"%s":%s}' % (type, framework, type.lower(), body)
+
+
+def accept(offers, *tasks):
+    ids = ",".join('{"value":"%s"}' % it for it in offers)
+    launch = ',"operations":[{"type":"LAUNCH","launch":{"task_infos":[%s]}}]' % ",".join(tasks) if tasks else ""
+    return call_of("ACCEPT", '{"offer_ids":[%s]%s}' % (ids, launch))
+
+
+OFFERS = '{"type":"OFFERS","offers":{"offers":[%s]}}' % ",".join(OFFERED % it for it in (("O1", "A1"), ("O2", "A1"), ("O3", "A2")))
+SUBSCRIBED = '{"type":"SUBSCRIBED","subscribed":{"framework_id":{"value":"F1"}}}'
+OFFER, TASK = OFFERED % ("O1", "A1"), LAUNCHED % ("T1", "A1", "%s")
+REVIVE = '{"type":"REVIVE","framework_id":{"value":"F1"}}'
+SUBSCRIBE = '{"type":"SUBSCRIBE","framework_id":{"value":"F1"},"subscribe":{"framework_info":{"user":"root","name":"n","id":{"value":"F1"}}}}'
+# The lines of tests/c_session.c, each with the status and the text that it prints: each refusal, fault and getter.
+SESSION = (
+    ("I", "0 0 0 0 0"),
+    ("F", "37 "),
+    ("O 0", "37 "),
+    ("N O1", "37 "),
+    ("U 0", "37 "),
+    (f"C {REVIVE}", "201 refused S1 NotSubscribed record 1"),
+    ("E {", "11 fault F11 Text record 1 byte 1 End after 1"),
+    ('E {"type":"OFFERS"}', "12 fault F12 Field record 1 offers Missing after 17"),
+    ('C {"type":"NONE","framework_id":{"value":"F1"}}', "12 fault F12 Field record 1 type LeftOut after 45"),
+    (f"E {SUBSCRIBED}", "0 "),
+    (f"E {OFFERS}", "0 "),
+    (f"E {UPDATE}", "0 "),
+    ("I", "0 1 3 3 1"),
+    ("F", "0 F1"),
+    ("O 0", "0 " + OFFERED % ("O1", "A1")),
+    ("N O3", "0 " + OFFERED % ("O3", "A2")),
+    ("N O4", "37 "),
+    ("O 3", "37 "),
+    ("U 0", f"0 {KEY}"),
+    (f"C {accept(('O1', 'O1'))}", "202 refused S2 NamedTwice record 4"),
+    (f"C {accept(('O1', 'O9'))}", "203 refused S3 NoSuchOffer record 4 index 1"),
+    (f"C {accept(('O1', 'O3'))}", "204 refused S4 TwoAgents record 4"),
+    (f"C {accept(('O1',), LAUNCHED % ('T1', 'A1', '1.0'), LAUNCHED % ('T2', 'A2', '1.0'))}", "205 refused S5 WrongAgent record 4 task 1"),
+    (f"K {accept(('O1',), LAUNCHED % ('T1', 'A1', '1.001'))}", "206 refused S6 Exceeds record 4 task 0 resource 0"),
+    (f"C {accept(('O1',), LAUNCHED % ('T1', 'A1', '1.001'))}", "206 refused S6 Exceeds record 4 task 0 resource 0"),
+    (f"C {call_of('ACKNOWLEDGE', KEY.replace('T1', 'T2'))}", "207 refused S7 NotOwed record 4"),
+    (f"K {accept(('O1',), LAUNCHED % ('T1', 'A1', '1.0'))}", f"0 {accept(('O1',), LAUNCHED % ('T1', 'A1', '1.0'))}"),
+    ("I", "0 1 3 3 1"),
+    (f"C  {accept(('O1',), LAUNCHED % ('T1', 'A1', '1'))}", f"0 {accept(('O1',), LAUNCHED % ('T1', 'A1', '1.0'))}"),
+    (f"C {call_of('ACKNOWLEDGE', KEY)}", f"0 {call_of('ACKNOWLEDGE', KEY)}"),
+    ("I", "0 1 5 2 0"),
+    ("A 0", "37 "),
+    (f"E {UPDATE}", "0 "),
+    (f"E {UPDATE.replace('T1', 'T2')}", "0 "),
+    ("A 2", "37 "),
+    ("A 1", f"0 {call_of('ACKNOWLEDGE', KEY.replace('T1', 'T2'))}"),
+    ("A 0", f"0 {call_of('ACKNOWLEDGE', KEY)}"),
+    ("I", "0 1 9 2 0"),
+    (f"L {UPDATE}|@||{UPDATE.replace('T1', 'T2')}@|{UPDATE.replace('T1', 'T3')}", "0 3 "),
+    ("M", "0 " + "".join(call_of("ACKNOWLEDGE", KEY.replace("T1", it)) + "|" for it in ("T1", "T2", "T3"))),
+    ("M", "0 "),
+    ("L |@|", "0 0 "),
+    ("L", "0 0 "),
+    ("I", "0 1 15 2 0"),
+    (f"L {UPDATE}||{{|{UPDATE}", "11 1 fault F11 Text record 1 byte 1 End after 1"),
+    (f"L {UPDATE}|@", "11 1 fault F11 Text record 1 byte 1 End after 1"),
+    ("M", f"0 {call_of('ACKNOWLEDGE', KEY)}|"),
+    ("I", "0 1 18 2 0"),
+    (f"E {UPDATE}", "0 "),
+    ("B", "0 "),
+    ("M", "201 refused S1 NotSubscribed record 21"),
+    ("A 0", "201 refused S1 NotSubscribed record 21"),
+    ("I", "0 0 20 0 1"),
+    ('S {"user":"root","name":"n"}', f"0 {SUBSCRIBE}"),
+    ('S {"user":1}', "12 fault F12 Field record 1 user WrongKind after 10"),
+    (f"C {REVIVE}", "201 refused S1 NotSubscribed record 22"),
+    (f"E {SUBSCRIBED}", "0 "),
+    (f"C {REVIVE}", f"0 {REVIVE}"),
+    ("I", "0 1 23 0 1"),
+    ('W {"type" : "HEARTBEAT"}', '0 20|{"type":"HEARTBEAT"}'),
+    ("W {}", "12 fault F12 Field record 1 type Missing after 2"),
+    ("H 0123456789abcdef", "0 10||0123456789abcdef||"),
+    ("H", "0 0||||"),
+    (f"T [{OFFER}] [{TASK % '0.5'},{TASK % '0.5'}]", "0 "),
+    (f"T [{OFFER}] [{TASK % '0.5'},{TASK % '0.501'}]", "206 refused S6 Exceeds record 1 task 0 resource 0"),
+    ("T [] []", "0 "),
+    ("T {} []", "12 fault F12 Field record 1 . WrongKind after 2"),
+    ("T [] [1]", "12 fault F12 Field record 2 [0] WrongKind after 4"),
+    ("T [", "11 fault F11 Text record 1 byte 1 End after 1"),
+    ("T []", "11 fault F11 Text record 2 byte 0 End after 0"),
+    ("I", "0 1 23 0 1"),
+)
+
+
+class Tests(Languages):
     def run_command(self, subcommand, framing, limit, data):
         """Runs the command on a stream. Returns standard output, and the last line of it or of standard error."""
         ran = self.run([self.program, subcommand, *FRAMINGS[framing], "--limit", str(limit)], data)
@@ -109,13 +207,6 @@ class Tests(Cases):
 
     def flags(self, *args):
         return self.run(["pkg-config", *args, "mesosev"]).stdout.decode().split()
-
-    def compile(self, name, args):
-        """Builds a program. Returns its path, or None on failure."""
-        path = os.path.join(self.folder, name)
-        ran = self.run([*args, "-o", path])
-        self.expect(f"building {name}", (0, ""), (ran.returncode, ran.stderr.decode()))
-        return path if ran.returncode == 0 else None
 
     def symbols(self):
         for name, args in (("libmesosev.so", ["nm", "-D"]), ("libmesosev.a", ["nm"])):
@@ -205,11 +296,53 @@ class Tests(Cases):
             self.streams([*VALGRIND, static], " under valgrind", (64,), (0, 2))
             self.cuts([*VALGRIND, static], " under valgrind", 97, (0, 2))
             self.others([*VALGRIND, static], " under valgrind")
+        sanitized = self.compile_sanitized("reader", command)
+        if sanitized:
+            self.streams([sanitized], " under the address sanitizer", (64,), (0, 2))
+            self.cuts([sanitized], " under the address sanitizer", 97, (0, 2))
+            self.others([sanitized], " under the address sanitizer")
+
+    def sessions(self):
+        command = [os.environ.get("CC", "cc"), "-std=c11", "-D_DEFAULT_SOURCE", "-O2", "-g", "-Wall", "-Wextra", f"{TOP}/tests/c_session.c"]
+        static = self.compile("static_session", [*command, f"-I{self.prefix}/include", f"{self.prefix}/lib/libmesosev.a"])
+        script = "".join(f"{line}\n" for line, _ in SESSION).encode()
+        if not static:
+            return
+        for room in (1, 2, 64, 641, 100_000):
+            self.session([static, str(room), "1"], script, f", room for {room}")
+        self.session([static, "1", "1000"], script, ", the first of a thousand")
+        if shutil.which("valgrind"):
+            self.session([*VALGRIND, static, "1", "30"], script, " under valgrind")
+        sanitized = self.compile_sanitized("session", command)
+        if sanitized:
+            self.session([sanitized, "1", "1000"], script, " under the address sanitizer")
+        self.failed_sessions(static, script)
+
+    def failed_sessions(self, static, script):
+        """Makes each allocation of a session fail in turn. No failure may change the session, and S8 must occur."""
+        library, seen, at = self.build_refuse(), set(), 0
+        while at < 2000:
+            at += 1
+            environment = dict(self.environment, LD_PRELOAD=library, REFUSE_AT=str(at), REFUSE_COUNT=os.path.join(self.folder, "count"))
+            ran = subprocess.run([static, "100000", "1", "bare"], input=script, stdout=subprocess.PIPE, env=environment)
+            seen |= {line.split(b" ")[1] for line in ran.stdout.splitlines() if line.count(b" ") > 1}
+            self.expect(f"a session, allocation {at} fails", True, ran.returncode in (0, 2))
+            with open(os.path.join(self.folder, "count")) as file:
+                if at > int(file.read()):
+                    break
+        self.expect("a session, allocations fail: F13 and S8 occur", True, {b"13", b"208"} <= seen)
+
+    def session(self, command, script, how):
+        ran = self.run(command, script)
+        printed = ran.stdout.decode().split("\n")[:-1]
+        self.expect(f"sessions{how}: the log leads to the session", (0, ""), (ran.returncode, ran.stderr.decode()))
+        for number, (line, expected) in enumerate(SESSION):
+            self.expect(f"session line {number}, {line}{how}", f"{line[0]} {expected}", printed[number] if number < len(printed) else None)
 
     def pages(self):
-        """Checks that docs/LIBRARY.md has the C example unchanged."""
-        page, code = (open(f"{TOP}/{name}", encoding="utf-8").read() for name in ("docs/LIBRARY.md", "examples/reader.c"))
-        self.expect("docs/LIBRARY.md has examples/reader.c", True, f"```c\n{code}```\n" in page)
+        """Checks that docs/library/c.md has the example unchanged."""
+        page, code = (open(f"{TOP}/{name}", encoding="utf-8").read() for name in ("docs/library/c.md", "examples/reader.c"))
+        self.expect("docs/library/c.md has examples/reader.c", True, f"```c\n{code}```\n" in page)
 
     def examples(self):
         data, broken = example("stream.recordio"), example("broken.recordio")
@@ -218,7 +351,7 @@ class Tests(Cases):
         flags = self.flags("--cflags", "--libs")
         builds = {
             "reader.c": [os.environ.get("CC", "cc"), "-Wall", "-Wextra"],
-            "reader.cc": [os.environ.get("CXX", "c++"), "-std=c++17", "-Wall", "-Wextra"],
+            "reader.cc": [CXX, "-std=c++17", "-Wall", "-Wextra"],
             "reader.go": ["go", "build"],
         }
         for name, command in builds.items():
@@ -250,9 +383,7 @@ class Tests(Cases):
     def failed_allocations(self, name, path, expected, data):
         """Makes each allocation fail in turn. Each event must have its line or an empty one, up to the end of the
         stream or fault F13."""
-        library = os.path.join(self.folder, "refuse.so")
-        self.run([os.environ.get("CC", "cc"), "-shared", "-fPIC", "-o", library, f"{TOP}/tests/refuse.c"])
-        empty = 0
+        library, empty = self.build_refuse(), 0
         for at in range(1, 120):
             environment = dict(self.environment, LD_PRELOAD=library, REFUSE_AT=str(at))
             ran = subprocess.run([path], input=data, stdout=subprocess.PIPE, stderr=subprocess.PIPE, env=environment)
@@ -268,6 +399,12 @@ class Tests(Cases):
             self.count(case, is_good, f"\n  expected: the lines, or fault F13\n  got:      status {ran.returncode}, {lines[-3:]}")
         self.expect(f"examples/{name}, some events have no text", True, empty > 0)
 
+    def build_refuse(self):
+        """Builds the library that makes allocations fail. Returns its path."""
+        library = os.path.join(self.folder, "refuse.so")
+        self.run([os.environ.get("CC", "cc"), "-shared", "-fPIC", "-o", library, f"{TOP}/tests/refuse.c"])
+        return library
+
     def compile_go(self, source):
         path = os.path.join(self.folder, "reader_go")
         # Go's default cache ignores the output of pkg-config, and would link the library of an earlier run.
@@ -277,7 +414,7 @@ class Tests(Cases):
         return path if ran.returncode == 0 else None
 
     def python(self):
-        self.environment["MESOSEV_LIBRARY"] = f"{self.prefix}/lib/libmesosev.so"
+        self.environment.update(MESOSEV_LIBRARY=f"{self.prefix}/lib/libmesosev.so", MESOSEV=self.program)
         ran = subprocess.run([sys.executable, "-B", "-m", "unittest", "test_mesosev"], cwd=f"{TOP}/lib", env=self.environment, stderr=subprocess.PIPE)
         printed = ran.stderr.decode()
         count = int(re.search(r"Ran (\d+) test", printed)[1]) if "Ran " in printed else 1
@@ -286,6 +423,10 @@ class Tests(Cases):
             print(printed)
         self.passed += count - bad
         self.failed += bad
+        ran = self.run([sys.executable, "-B", f"{TOP}/tests/sessions.py", self.program])
+        self.expect("tests/sessions.py", (0, ""), (ran.returncode, ran.stderr.decode()), ran.stdout.decode())
+        ran = self.run([sys.executable, "-B", f"{TOP}/tests/connected.py", self.program])
+        self.expect("tests/connected.py", (0, ""), (ran.returncode, ran.stderr.decode()), ran.stdout.decode())
 
 
 def split(texts):
@@ -306,7 +447,7 @@ def main():
     with tempfile.TemporaryDirectory() as folder:
         tests = Tests(os.path.abspath(arguments.program), folder, arguments.word)
         if shutil.which(os.environ.get("CC", "cc")) and tests.build():
-            tests.run_chosen(tests.symbols, tests.readers, tests.examples, tests.pages, tests.python)
+            tests.run_chosen(tests.symbols, tests.readers, tests.sessions, tests.examples, tests.pages, tests.cpp, tests.go, tests.rust, tests.python)
     return tests.end()
 
 

@@ -1,5 +1,5 @@
 #!/usr/bin/env python3
-"""Compares the Rattle code of docs/LIBRARY.md with the program crates/mesosev_guide.
+"""Compares the Rattle code of docs/library/rattle.md with the program crates/mesosev_guide.
 
 The lines of each block that is indented by four spaces must be consecutive lines of one file of
 crates/mesosev_guide/src. A line `...` skips lines of the file. Blanks at the end of a line, and
@@ -13,7 +13,7 @@ import sys
 sys.dont_write_bytecode = True
 from support import TOP, Cases, parser
 
-PAGE = "docs/LIBRARY.md"
+PAGE = "docs/library/rattle.md"
 SOURCES = "crates/mesosev_guide/src/*.rt"
 INDENT = "    "
 FENCE = "```"

@@ -9,6 +9,7 @@ clients. The case of a real client is skipped if that client is not installed.
 """
 import importlib
 import os
+import signal
 import sys
 from concurrent.futures import ThreadPoolExecutor
 
@@ -18,7 +19,7 @@ from runs import CASES, Run, Skipped
 from support import Cases, parser
 
 # The modules with the cases, those that take longest first.
-MODULES = ["at_random", "memory", "with_clients", "limits", "sockets", "rules_streams", "rules_tasks", "rules_offers", "inputs"]
+MODULES = ["at_random", "memory", "with_clients", "limits", "sockets", "rules_streams", "rules_tasks", "rules_offers", "faults", "planned", "pages", "inputs"]
 
 
 class Tests(Cases):
@@ -38,6 +39,8 @@ class Tests(Cases):
 
 def main():
     arguments = parser(__doc__, "tests/live.py $(tools/built checked) -k offer", "program", together=8).parse_args()
+    # A shell starts a command in the background with this signal ignored, and masters would inherit that.
+    signal.signal(signal.SIGINT, signal.default_int_handler)
     tests, program = Tests(arguments.word), os.path.abspath(arguments.program)
     for name in MODULES:
         importlib.import_module(name)

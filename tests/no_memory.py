@@ -178,6 +178,19 @@ def accept(framework):
     ) % (framework, b",".join(map(task, range(3))))
 
 
+# The bodies of the calls other than SUBSCRIBE.
+CALL_BODIES = {
+    b"ACCEPT": b',"accept":{"offer_ids":[{"value":"O1"}],"operations":[]}',
+    b"DECLINE": b',"decline":{"offer_ids":[{"value":"O1"}],"filters":{"refuse_seconds":5}}',
+    b"REVIVE": b"",
+    b"KILL": b',"kill":{"task_id":{"value":"a task of a long identifier"},"agent_id":{"value":"A1"}}',
+    b"ACKNOWLEDGE": b',"acknowledge":{"agent_id":{"value":"A1"},"task_id":{"value":"T1"},"uuid":"AAECAwQFBgcICQoLDA0ODw=="}',
+    b"RECONCILE": b',"reconcile":{"tasks":[{"task_id":{"value":"a task of a long identifier"}}]}',
+    b"TEARDOWN": b"",
+    b"SUPPRESS": b"",
+    b"SHUTDOWN": b',"shutdown":{"executor_id":{"value":"an executor of a long identifier"},"agent_id":{"value":"A1"}}',
+    b"MESSAGE": b',"message":{"agent_id":{"value":"A1"},"executor_id":{"value":"E1"},"data":"Zm9vYmFyYmF6Zm9vYmFyYmF6"}',
+}
 LAUNCH_LOG = record(SUBSCRIBED) + record(b"E" + MANY_RESOURCES[0]) + record(b"C" + accept(FRAMEWORK))
 LOGS = {
     "a log": LOG,
@@ -187,6 +200,12 @@ LOGS = {
     "tasks launched": LAUNCH_LOG,
     **{name: record(SUBSCRIBED) + b"".join(record(b"E" + event) for event in EVENTS[name]) for name in EVENTS if name != "many offers"},
 }
+
+# The events and the calls of the inputs above as JSON Lines, with an empty line before each, and the calls as records.
+SOME_LINES = b"".join(b"\r\n%s\n" % event for event in (support.BEAT.encode()[3:], UPDATE, OFFERS, b'{"type":"X"}'))
+MANY_LINES = b"\n".join(event for events in EVENTS.values() for event in events)
+CALLS = [SUBSCRIBE, *(b'{"type":"%s","framework_id":{"value":"%s"}%s}' % (name, FRAMEWORK, body) for name, body in CALL_BODIES.items())]
+LARGE_CALLS = [LARGE_SUBSCRIBE, accept(FRAMEWORK), DECLINE[1:]]
 
 # The name of an input, the arguments, and the input.
 CASES = [
@@ -201,6 +220,14 @@ CASES = [
     ("some events", ["check", "--chunked"], chunked(PLAIN, 30)),
     ("some events", ["show", "--chunked"], chunked(PLAIN, 4096)),
     ("some events", ["loopback", "--most", "7"], PLAIN),
+    *((name, [command, "--lines"], data) for command in ("check", "show", "convert") for name, data in (("some events", SOME_LINES), ("many events", MANY_LINES))),
+    ("some events", ["show", "--json", "--lines"], SOME_LINES),
+    *(
+        (name, [*args, "--calls"], b"".join(map(record, calls)))
+        for args in (["check"], ["show"], ["show", "--json"], ["convert"])
+        for name, calls in (("some calls", CALLS), ("large calls", LARGE_CALLS))
+    ),
+    ("some calls in lines", ["show", "--calls", "--lines"], b"\n".join(CALLS)),
     ("a port without a server", ["subscribe", "--to", "127.0.0.1:1", "--user", "u" * 40, "--name", "n" * 40], b""),
     ("a usage error", ["serve", "--port", "1", "--count", "0"], b""),
     ("a usage error", ["check", "--limit", "0"], b""),
@@ -380,7 +407,7 @@ def predicate_of(args, data):
 
 def try_case(program, room, pool, name, args, data):
     """Makes allocations fail in turn. Returns the rows that are wrong."""
-    trial = Trial(f"{' '.join(args[:2])} of {name}", lambda *failed: program.run(args, data, *failed), room)
+    trial = Trial(f"{' '.join(args[:3])} of {name}", lambda *failed: program.run(args, data, *failed), room)
     if (trial.ample[0] != 0) != (name in FAILING):
         return [trial.ample_row()]
     return trial.wrong(predicate_of(args, data), pool)
@@ -803,7 +830,7 @@ def cases_of(room, pool, program, examples=None, worlds=None):
     """Yields the name of each case, and the function that returns the rows that are wrong."""
     of = functools.partial
     for name, args, data in CASES:
-        yield f"{' '.join(args[:2])} of {name}", of(try_case, program, room, pool, name, args, data)
+        yield f"{' '.join(args[:3])} of {name}", of(try_case, program, room, pool, name, args, data)
     ports = free_ports()
     for name, data, calls in SERVED:
         yield f"serve of {name}", of(try_served, program, room, pool, ports, name, data, calls)

@@ -31,6 +31,7 @@ PROGRAM_FILES = {
 }
 LIBRARY_FILES = {
     "include/mesosev.h",
+    "include/mesosev.hpp",
     "lib/libmesosev.a",
     "lib/libmesosev.so",
     "lib/libmesosev.so.0",
@@ -141,6 +142,8 @@ class Tests(Cases):
 
     def python(self, name, python, **environment):
         self.expect_output(f"{name}: python", " ".join(TYPES) + "\n", [python, "-B", "-c", NAMES], STREAM, **environment)
+        command = [python, "-B", "-m", "mesosev", f"{TOP}/examples/stream.recordio"]
+        self.expect_output(f"{name}: python -m mesosev", f"events {len(TYPES)} bytes {len(STREAM)}\n", command, **environment)
 
     def c_program(self, name, prefix):
         if not shutil.which("cc") or not shutil.which("pkg-config"):
@@ -321,6 +324,7 @@ def test_archive(tests, out):
 def test_wheel(tests, wheel):
     with zipfile.ZipFile(wheel) as archive:
         symbols = set(map(int, re.findall(rb"\0GLIBC_2\.(\d+)", archive.read("mesosev/libmesosev.so"))))
+        tests.expect("the wheel has the marker of PEP 561", True, "mesosev/py.typed" in archive.namelist())
     tests.expect("the wheel's platform", f"manylinux_2_{max(symbols | {5})}_x86_64.whl", wheel.rsplit("-", 1)[1])
     venv = f"{tests.folder}/venv"
     status, _, error = tests.run([sys.executable, "-m", "venv", venv])

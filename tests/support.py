@@ -16,6 +16,9 @@ HELP = {
     "seconds": "the time after which no new case starts",
     "seed": "the seed of the random inputs",
     "together": "the number of cases that run at once",
+    "runs": "the number of runs, one for each seed",
+    "first": "the first seed",
+    "long": "the seconds of one long run, in place of those of the seeds",
 }
 END = """The last line is 'N passed, M failed'. The status is 0 if no case failed, 1 if a case failed or no
 case has WORD in its name, and 2 for a usage error.

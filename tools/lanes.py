@@ -1,4 +1,4 @@
-"""Runs the tasks of the toolchain's gate in parallel."""
+"""Runs the proofs of the toolchain's gate in parallel."""
 
 from concurrent.futures import FIRST_COMPLETED, ThreadPoolExecutor, wait
 
@@ -54,8 +54,7 @@ class Lanes:
             idle = self.processors - sum(it for _, _, it in self.running.values())
             room = self.memory - sum(it for _, it, _ in self.running.values())
             if idle > 0 and (self.needs(key) <= room or not any(it for _, _, it in self.running.values())):
-                # The mutants of a crate are tried one after the other.
-                jobs = self.jobs(key, len(proofs) - 1, idle) if at == 0 and key[1] != "edits" else 1
+                jobs = self.jobs(key, len(proofs) - 1, idle) if at == 0 else 1
                 self.progress.begins(key, jobs)
                 self.submit(pool, key, jobs, jobs)
 

@@ -9,17 +9,35 @@ PUBLIC = r"(?P<public>pub(?:\([^)]*\))? )?"
 HEADER = re.compile(PUBLIC + r"(?:unsafe )?(?P<kind>impl|trait)\b(?P<rest>.*)")
 FUNCTION = re.compile(r"(?P<indent> *)" + PUBLIC + r'(?:const |final |unsafe |extern "C" )*fn (?P<name>\w+)')
 CLAUSE = re.compile(r"\s*ensures(?: (\w+))? \{")
+CONTRACT = re.compile(r"\s*(?:requires|ensures)\b")
 ITEM = re.compile(PUBLIC + r"(?:const|static|struct|enum|type|macro_rules!) (?P<name>\w+)")
 EXPORT = re.compile(r"^pub use ([^;]+);", re.M)
 PUBLIC_MODULE = re.compile(r"^pub mod (\w+);", re.M)
+# Programs of the tests, which promise nothing. Neither do the crates of tests.
+PROGRAMS = ("mes_double_worlds", "mesosev_examples", "mesosev_guide")
+
+
+def names_of_crates():
+    """Returns the names of crates.txt in its order."""
+    with open(f"{TOP}/crates.txt", encoding="utf-8") as file:
+        lines = [it.split("#")[0] for it in file]
+    return [it.split()[0].rstrip(":") for it in lines if ":" in it]
+
+
+def is_listed(name):
+    """Returns whether a crate promises anything."""
+    return not name.endswith("_tests") and name not in PROGRAMS
 
 
 class Function:
-    """A function: its file below src/, its lines counted from 0, its first sentence, and its clauses with their comments."""
+    """A function: its file below src/, its lines counted from 0, its first sentence, and its clauses with their comments.
+    `body` is the line in which its body begins, and `trait` the trait that it is declared in or implements."""
 
-    def __init__(self, path, name, first, last):
-        self.path, self.name, self.first, self.last = path, name, first, last
+    def __init__(self, path, name, lines):
+        self.path, self.name = path, name
+        self.first, self.body, self.last = lines
         self.is_public, self.summary, self.clauses, self.edits = False, "", [], []
+        self.kind, self.trait, self.has_contract, self.has_body = "", "", False, False
 
 
 class Edit:
@@ -55,24 +73,27 @@ class Crate:
     def functions_of(self, path):
         """Yields the functions of a file."""
         lines = self.texts[path].split("\n")
-        owner, kind, is_public_owner = "", "", False
+        owner, kind, trait, is_public_owner = "", "", "", False
         for number, line in enumerate(lines):
             header, found = HEADER.match(line), FUNCTION.match(line)
             if header:
-                owner, kind = owner_of(header), kind_of(header)
+                owner, kind, trait = owner_of(header), kind_of(header), trait_of(header)
                 is_public_owner = self.is_exported(path, owner)
             elif line.startswith("}"):
                 owner = ""
             elif found:
-                yield self.function(path, lines, number, found, (owner, kind, is_public_owner))
+                yield self.function(path, lines, number, found, (owner, kind, trait, is_public_owner))
 
     def function(self, path, lines, number, found, around):
         """Makes the function that begins in a line."""
-        owner, kind, is_public_owner = around if found["indent"] else ("", "", False)
+        owner, kind, trait, is_public_owner = around if found["indent"] else ("", "", "", False)
         indent, name = found["indent"], found["name"]
         body = body_of(lines, number, indent)
         last = end_of(lines, body, indent)
-        made = Function(path, f"{owner}::{name}" if owner else name, number, last)
+        made = Function(path, f"{owner}::{name}" if owner else name, (number, body, last))
+        made.kind, made.trait = kind, trait
+        made.has_contract = any(CONTRACT.match(it) for it in lines[number : body + 1])
+        made.has_body = not lines[last].endswith(";")
         is_shown = found["public"] == "pub " or kind == "trait"
         made.is_public = is_shown and (is_public_owner if owner else self.is_exported(path, name))
         made.summary = first_sentence(comment_before(lines, number, "///"))
@@ -94,6 +115,15 @@ class Crate:
             others.append((path, item_at(text.split("\n"), line)))
         if others:
             self.elsewhere.append((edit, *others[-1]))
+
+
+def full_name(crate, function):
+    """Returns the name of a function with its crate, file and type, like that of the prover."""
+    modules = function.path.removesuffix(".rt").removesuffix("lib").removesuffix("main").strip("/").split("/")
+    *owner, name = function.name.split("::")
+    if owner and function.kind == "implementation":
+        owner[0] += function.trait
+    return "::".join(it for it in (crate.name, *modules, *owner, name) if it)
 
 
 def read_texts(folder):
@@ -168,6 +198,14 @@ def end_of(lines, body, indent):
     if lines[body].endswith(("{}", ";")):
         return body
     return next((at for at in range(body, len(lines)) if lines[at] == f"{indent}}}"), body)
+
+
+def trait_of(header):
+    """Returns the name of the trait that a block declares or implements, or an empty text."""
+    if kind_of(header) == "type":
+        return ""
+    rest = header["rest"] if header["kind"] == "trait" else without_generics(header["rest"])
+    return re.search(r"\w+", rest)[0]
 
 
 def comment_before(lines, number, mark):

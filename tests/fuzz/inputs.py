@@ -1,8 +1,8 @@
 """Generates the random inputs of tests/fuzz, valid and invalid ones.
 
-They are event streams, session logs, chunked bodies, requests, and responses to SUBSCRIBE. Each
-generator takes a `random.Random`, so that a seed gives the same input again. Valid inputs follow the
-tables of docs/FORMAT.md.
+They are streams of events or calls, JSON Lines, session logs, chunked bodies, requests, and
+responses to SUBSCRIBE. Each generator takes a `random.Random`, so that a seed gives the same input
+again. Valid inputs follow the tables of docs/FORMAT.md.
 """
 import base64
 import bisect
@@ -288,27 +288,60 @@ def size_line(pick, size, wild):
     return pick.choice(numbers + [b"%021d" % size, b" %d" % size, b"%d\r" % size, b""]) + b"\n"
 
 
-def framed(pick, records, wild):
-    """Returns the trees as records, each text after its letter. If `wild`, some are damaged."""
-    data, loose = b"", pick.choice([0, 0, 0, 0.05, 0.4])
+def texts_of(pick, records, wild):
+    """Yields the text of each tree after its letter. If `wild`, some are damaged."""
+    loose = pick.choice([0, 0, 0, 0.05, 0.4])
     for letter, tree in records:
         if tree is not None and pick.random() < 0.3:
             tree = decorated(pick, tree)
         if tree is not None and wild and pick.random() < 0.4:
             tree = disturbed(pick, tree)
         text = letter + (b"" if tree is None else json_text(pick, tree, loose))
-        if wild and pick.random() < 0.2:
-            text = damaged(pick, text)
-        data += size_line(pick, len(text), wild) + text
+        yield damaged(pick, text) if wild and pick.random() < 0.2 else text
+
+
+def framed(pick, records, wild):
+    """Returns the trees as records, each text after its letter. If `wild`, some are damaged."""
+    data = b"".join(size_line(pick, len(text), wild) + text for text in texts_of(pick, records, wild))
     while wild and pick.random() < 0.35:
         data = damaged(pick, data)
     return data
 
 
-def stream(pick):
+def lined(pick, records, wild):
+    """Returns the trees as JSON Lines, with empty lines before some. If `wild`, some are damaged."""
+    data = b""
+    for text in texts_of(pick, records, wild):
+        # A line feed in a text is white space, and replaced by other white space.
+        text = text if wild and pick.random() < 0.1 else text.replace(b"\n", pick.choice([b" ", b"\r"]))
+        data += pick.choice([b"", b"", b"\n", b"\r\n\n"]) + text + pick.choice([b"\n", b"\n", b"\r\n", b"\r\r\n"])
+    # The last line may lack its line feed.
+    data = data[:-1] if pick.random() < 0.4 else data + pick.choice([b"", b"\n", b"\r"])
+    while wild and pick.random() < 0.35:
+        data = damaged(pick, data)
+    return data
+
+
+def any_call(pick):
+    return call(pick, pick.choice([*CALLS, "TEARDOWN"]))
+
+
+def stream(pick, kind="stream", message=event, written=framed):
     wild = pick.random() < 0.75
-    events = [(b"", event(pick)) for _ in range(pick.choice([0, 1, 1, 2, 3, 5]))]
-    return Input("stream", framed(pick, events, wild), None if wild else len(events))
+    messages = [(b"", message(pick)) for _ in range(pick.choice([0, 1, 1, 2, 3, 5]))]
+    return Input(kind, written(pick, messages, wild), None if wild else len(messages))
+
+
+def lines(pick):
+    return stream(pick, "lines", event, lined)
+
+
+def calls(pick):
+    return stream(pick, "calls", any_call)
+
+
+def call_lines(pick):
+    return stream(pick, "call_lines", any_call, lined)
 
 
 def log(pick):
@@ -390,16 +423,20 @@ def ended(pick, parts):
     return before + damage + body_of(parts[at + 1 :]), CHUNK_FAULTS[number - 1], len(before) + byte, len(places_of(parts[:at]))
 
 
-def chunked(pick):
+def chunked(pick, kind="chunked", made=stream):
     """Returns a chunked body of a stream, both often valid."""
-    inside = stream(pick)
+    inside = made(pick)
     parts = in_chunks(pick, inside.data)
     if pick.random() < 0.4:
-        return Input("chunked", body_of(parts), inside.count)
+        return Input(kind, body_of(parts), inside.count)
     for _ in range(pick.randrange(3)):
         at = pick.randrange(len(parts))
         parts[at] = (parts[at][0], damaged(pick, parts[at][1]))
-    return Input("chunked", ended(pick, parts)[0], None)
+    return Input(kind, ended(pick, parts)[0], None)
+
+
+def chunked_calls(pick):
+    return chunked(pick, "chunked_calls", calls)
 
 
 # ---- heads, requests and responses
@@ -483,4 +520,7 @@ def response(pick):
     return Input("response", data + chunked(pick).data, None)
 
 
-MAKERS = {"stream": stream, "chunked": chunked, "log": log, "request": requests, "response": response}
+MAKERS = {
+    "stream": stream, "chunked": chunked, "lines": lines, "calls": calls, "chunked_calls": chunked_calls, "call_lines": call_lines,
+    "log": log, "request": requests, "response": response,
+}

@@ -319,7 +319,7 @@ def usage_errors(run):
     rows = [
         "", "--port", "--port x", "--port -1", "--port 65536", "--port 0 --port 0", "--port 0 x", "--count 1",
         "--port 0 --count 1", "--port 0 --stream s", "--port 0 --chunked", "--port 0 --limit 1", "--port 0 --once=1", "--port 0 --once --once",
-        *(f"--port 0 --{name} {value}" for name in ("heartbeat", "resend", "finish-after", "seconds", "most") for value in ("", "x", "-1", "1.5", 2**64)),
+        *(f"--port 0 --{name} {value}" for name in ("heartbeat", "resend", "finish-after", "seconds", "most", "faults", "seed") for value in ("", "x", "-1", "1.5", 2**64)),
         "--port 0 --heartbeat 0", "--port 0 --most 0", "--port 0 --most 16777217", "--port 0 --heartbeat 1 --heartbeat 1",
     ]
     for row in rows:
@@ -331,7 +331,7 @@ def usage_errors(run):
 
 @case("master --help has each option, and --version the version")
 def help_and_version(run):
-    names = ["port", "heartbeat", "resend", "finish-after", "seconds", "most", "once", "help", "version"]
+    names = ["port", "heartbeat", "resend", "finish-after", "seconds", "most", "fault", "faults", "seed", "once", "help", "version"]
     ran = subprocess.run([run.program, "master", "--help"], stdin=subprocess.DEVNULL, capture_output=True, timeout=LIMIT, check=False)
     found = sorted(re.findall(r"^ +(?:-\w, )?--([a-z-]+)", ran.stdout.decode(), re.MULTILINE))
     expect("the options and the status", (sorted(names), 0), (found, ran.returncode))

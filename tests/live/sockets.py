@@ -168,7 +168,7 @@ def bad_requests():
     return [
         ("another path", request(revive, path="/x"), "404"),
         ("a path with a query", request(revive, path=PATH + "?a=b"), "404"),
-        ("a GET of another path", b"GET / HTTP/1.1\r\nHost: h\r\n\r\n", "404"),
+        ("a GET of another path", b"GET /x HTTP/1.1\r\nHost: h\r\n\r\n", "404"),
         ("a GET", request(revive, method="GET"), "405"),
         ("a method in small letters", request(revive, method="post"), "405"),
         ("no Content-Type", good.replace(b"Content-Type: application/json\r\n", b""), "400"),

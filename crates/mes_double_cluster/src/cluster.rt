@@ -80,6 +80,27 @@ impl Cluster {
         stock::add_all(self.alloc, &mut self.stock, offers)
     }
 
+    /// Returns the offers in stock, in the order in which they came.
+    pub fn stocked_offers(&self) -> &[StockedOffer]
+        ensures { result.now ≡ self.now.stock }
+    {
+        self.stock.as_slice()
+    }
+
+    /// Returns the tasks that are not over, in the order of their launches.
+    pub fn tasks(&self) -> &[Task]
+        ensures { result.now ≡ self.now.tasks }
+    {
+        self.tasks.as_slice()
+    }
+
+    /// Returns whether no offer is made: true from a SUPPRESS to the next REVIVE.
+    pub fn is_suppressed(&self) -> bool
+        ensures { result ≡ self.now.suppressed }
+    {
+        self.suppressed
+    }
+
     /// Returns the number of offers in stock.
     pub fn stock_len(&self) -> usize
         ensures { result ≡ length self.now.stock }

@@ -31,7 +31,7 @@ pub use cluster::Cluster;
 pub use fitting::unfitting_resource;
 pub use offer_state::OfferState;
 pub use progress::{NextState, Progress, is_last};
-pub use sent_updates::SentUpdates;
+pub use sent_updates::{SentUpdate, SentUpdates};
 pub use statuses::{REFUSE_DEFAULT, refusal_end, task_error, task_lost, task_unknown, update_uuid};
 pub use stocked_offer::StockedOffer;
 pub use task::Task;

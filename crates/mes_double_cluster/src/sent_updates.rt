@@ -10,10 +10,11 @@ use std::marker::Model;
 
 /// An update that requires an acknowledgement, and when it was sent last.
 #[derive(Drop)]
-pub(crate) struct SentUpdate {
-    pub(crate) key: OwedKey,
+pub struct SentUpdate {
+    /// The key of the acknowledgement that the update requires.
+    pub key: OwedKey,
     /// The time of the last sending, in milliseconds.
-    pub(crate) at: u64,
+    pub at: u64,
 }
 
 /// The unacknowledged updates in the order of their first sending, with the time of the last one.
@@ -40,6 +41,13 @@ impl SentUpdates {
         SentUpdates {
             updates: Vec::new(alloc),
         }
+    }
+
+    /// Returns the updates.
+    pub fn as_slice(&self) -> &[SentUpdate]
+        ensures { result.now ≡ self.now }
+    {
+        self.updates.as_slice()
     }
 
     /// Returns the number of updates.

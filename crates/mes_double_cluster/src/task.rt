@@ -35,6 +35,20 @@ impl Task {
         })
     }
 
+    /// Returns the identifier of the task.
+    pub fn id(&self) -> &Id
+        ensures { result.now ≡ self.now.id }
+    {
+        &self.id
+    }
+
+    /// Returns the identifier of the agent on which the task runs.
+    pub fn agent(&self) -> &Id
+        ensures { result.now ≡ self.now.agent }
+    {
+        &self.agent
+    }
+
     /// Returns the number of the launch.
     pub fn launch(&self) -> u64
         ensures { result ≡ self.now.launch }

@@ -56,17 +56,17 @@ follows-other found name bytes headers i inside same f = record {
   all = rw (f.all, values-more name bytes headers i false inside same) refl;
 }
 
+pub some-found : (n : Named) (vs : List (List ℕ)) → (n ≡ Nothing → ⊥) → IsNamed n vs → 1 ≤ length vs
+some-found Nothing vs not is = absurd (not refl)
+some-found (One v) vs not is = omega (arith, ap length is)
+some-found More vs not is = omega (arith, is)
+
 pub follows-again : (found : Named) (name bytes : List ℕ) (headers : List HeaderSpan) (i : ℕ) → i < length headers
     → str_eq_ignore_ascii_case (field_at bytes headers i).0 name ≡ true → (found ≡ Nothing → ⊥)
     → Follows found name bytes headers i → 2 ≤ length (values_named name (map (header_bytes bytes) headers))
 follows-again found name bytes headers i inside same some f =
     let one = some-found found f.before some f.is in
     omega (arith, ap length f.all, length-append f.before (values_from name bytes headers i), ap length (values-more name bytes headers i true inside same), one)
-  where
-    some-found : (n : Named) (vs : List (List ℕ)) → (n ≡ Nothing → ⊥) → IsNamed n vs → 1 ≤ length vs
-    some-found Nothing vs not is = absurd (not refl)
-    some-found (One v) vs not is = omega (arith, ap length is)
-    some-found More vs not is = omega (arith, is)
 
 pub follows-end : (found : Named) (name bytes : List ℕ) (headers : List HeaderSpan) (i : ℕ) → length headers ≤ i
     → Follows found name bytes headers i → IsNamed found (values_named name (map (header_bytes bytes) headers))

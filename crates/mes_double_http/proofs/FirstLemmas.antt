@@ -33,7 +33,7 @@ head_once bytes h k x y =
     let same = request_unique bytes h k x.rest y.rest (begins-reads bytes h x) (begins-reads bytes k y) in
     (same.0, x.is.reads.1 ∙ ap (λ (r : RequestHead). print_request r ++ []) same.0 ∙ sym y.is.reads.1, same.1)
 
-begins-front : (bytes : List ℕ) (h : RequestHead) → BeginsHead bytes h → BeginsHead (take MAX_HEAD bytes) h
+pub begins-front : (bytes : List ℕ) (h : RequestHead) → BeginsHead bytes h → BeginsHead (take MAX_HEAD bytes) h
 begins-front bytes h x =
     let k = MAX_HEAD - length x.front in
     let sum : length x.front + k ≡ MAX_HEAD = omega (arith, x.is.bytes) in
@@ -44,17 +44,17 @@ begins-front bytes h x =
       is = x.is;
     }
 
-begun_pends : (bytes : List ℕ) (h : RequestHead) → BeginsHead bytes h → PendsRequest bytes → ⊥
+pub begun_pends : (bytes : List ℕ) (h : RequestHead) → BeginsHead bytes h → PendsRequest bytes → ⊥
 begun_pends bytes h x pends = pends.0 h x.rest (begins-reads bytes h x)
 
-begun_none : (bytes : List ℕ) (h : RequestHead) → BeginsHead bytes h → IsNoHead bytes → ⊥
+pub begun_none : (bytes : List ℕ) (h : RequestHead) → BeginsHead bytes h → IsNoHead bytes → ⊥
 begun_none bytes h x none =
     let over : MAX_FIELDS < length h.fields = none.0 [] h x.rest (subst (λ (t : List ℕ). ReadsRequest t h x.rest) (sym (append-nil bytes)) (begins-reads bytes h x)) in
     omega (arith, over, x.is.fields)
 
 -- ---- what a head states, and the first rule that it breaks
 
-length_once : (fields : List NameAndValue) (n m : ℕ) → ReportsLength fields n → ReportsLength fields m → n ≡ m
+pub length_once : (fields : List NameAndValue) (n m : ℕ) → ReportsLength fields n → ReportsLength fields m → n ≡ m
 length_once fields n m x y =
     let same : ◌≡◌ {A = List (List ℕ)} (x.value ∷ []) (y.value ∷ []) = sym x.once ∙ y.once in
     let value : x.value ≡ y.value = cc in

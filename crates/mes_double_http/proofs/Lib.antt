@@ -6,6 +6,9 @@ pub mod LengthLemmas
 pub mod LineLemmas
 pub mod LineSteps
 pub mod Nothing
+pub mod OncePageLemmas
+pub mod PageLemmas
+pub mod PageRuleLemmas
 pub mod Phrases
 pub mod PushLemmas
 pub mod ReceivedLemmas

@@ -1,8 +1,8 @@
 -- Lemmas about a head at the start of the bytes that came.
-use Rattle.std.proofs.Common.{◌≡◌, ◌≢◌, ℕ, ◌+◌, ◌-◌, ◌<◌, ◌≤◌, ◌⊎◌, List, [], ◌∷◌, ◌++◌, length, take, drop, map, min, All, refl, sym, ap, ap₂, ◌∙◌, subst, arith, inl, inr, append_assoc, append-nil, length-append, length-take, length-drop, flat_map}
+use Rattle.std.proofs.Common.{◌≡◌, ◌≢◌, ℕ, ◌+◌, ◌-◌, ◌<◌, ◌≤◌, ◌⊎◌, List, [], ◌∷◌, ◌++◌, length, take, drop, map, min, All, refl, sym, ap, ap₂, ◌∙◌, subst, arith, inl, inr, append_assoc, append-nil, length-append, length-take, flat_map}
 use Rattle.std.specs.List.{slice_range}
 use Rattle.std.proofs.lemmas.Bool.{cases_lt}
-use Rattle.std.proofs.lemmas.List.{take_all, take_at, take-take, take-append-le, take-append-drop, drop_all, drop-take, drop-drop, length-map}
+use Rattle.std.proofs.lemmas.List.{take_all, take_at, take-take, take-append-le, take-append-drop, drop_all, drop-take, length-map}
 use Rattle.std.proofs.lemmas.List.Elements.{All-head, All-tail}
 use Rattle.std.proofs.Math.Seq.{take-append_seam, take-append-add}
 use Rattle.httparse.specs.Grammar.{LineEnd, crlf, lf, print_end, print_blank, print_version, print_field, RequestHead, print_request, ReadsRequest, HasNoRequest, NeverHasRequest, EndsInTarget}
@@ -195,6 +195,11 @@ cut-call bytes found (h, is, keeps, kept, within) short = (
   short,
 )
 
+pub parts : (bytes body after : List ℕ) (s n : ℕ) → body ≡ take n (drop s bytes) → after ≡ drop n (drop s bytes) → bytes ≡ (take s bytes ++ body) ++ after
+parts bytes body after s n body_is after_is =
+    sym (take-append-drop s bytes) ∙ ap (λ (t : List ℕ). take s bytes ++ t) (sym (take-append-drop n (drop s bytes)) ∙ ap₂ ◌++◌ (sym body_is) (sym after_is))
+    ∙ sym (append_assoc (take s bytes) body after)
+
 pub whole-call : (bytes : List ℕ) (found : FoundHead) (body after : List ℕ) → IsFoundHead bytes found → found.announced.length ≤ length (drop found.size bytes)
     → body ≡ take found.announced.length (drop found.size bytes) → after ≡ drop found.announced.length (drop found.size bytes)
     → (taken : List ℕ) × (bytes ≡ taken ++ after) × (call : IsWholeCall taken found.announced.stream body) × (found.persistence ≡ persistence call.head)
@@ -204,8 +209,7 @@ whole-call bytes found body after (h, is, keeps, kept, within) room body_is afte
     let behind = drop found.size bytes in
     let size : length body ≡ n = omega (arith, ap length body_is, length-take n behind, room) in (
       front ++ body,
-      sym (take-append-drop found.size bytes) ∙ ap (λ (t : List ℕ). front ++ t) (sym (take-append-drop n behind) ∙ ap₂ ◌++◌ (sym body_is) (sym after_is))
-          ∙ sym (append_assoc front body after),
+      parts bytes body after found.size n body_is after_is,
       record { head = h; front = front; split = refl; is = is; keeps = subst (λ (k : ℕ). IsCall h k found.announced.stream) (sym size) keeps; within = omega arith },
       kept,
     )
@@ -220,9 +224,3 @@ call-there bytes found is room =
 pub refused-first : (f : HeadFault) (bytes : List ℕ) → RefusesHead f bytes → RefusesFirst f bytes
 refused-first NoMemory bytes (h, begins, breaks) = absurd breaks
 refused-first f bytes refuses = refuses
-
-pub drops : (bytes : List ℕ) (a b c : ℕ) → drop (a + (b + c)) bytes ≡ drop c (drop b (drop a bytes))
-drops bytes a b c = sym (drop-drop c b (drop a bytes) ∙ drop-drop (b + c) a bytes)
-
-pub taken-body : (bytes left : List ℕ) (s n : ℕ) → left ≡ bytes → take n (take (length left - s) (drop s left)) ≡ take n (drop s bytes)
-taken-body bytes left s n same = ap (take n) (take_all (length left - s) (drop s left) (omega (arith, length-drop s left)) ∙ ap (drop s) same)

@@ -12,3 +12,4 @@ pub mod Calls
 pub mod Hosts
 pub mod Connections
 pub mod Received
+pub mod Pages

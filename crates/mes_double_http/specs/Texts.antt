@@ -2,6 +2,8 @@
 -- line is empty.
 use Rattle.std.specs.Prelude.{ℕ, List, [], ◌++◌, Option, None, Some, codes, decimal}
 use Rattle.http.specs.StatusCode.{reason_phrase}
+use Rattle.mes_double_http.specs.declared.page_writer.PageMedia.{PageMedia}
+use Rattle.mes_double_http.specs.declared.page_writer.PageMedia.TheVariants.{Html, Json}
 use Rattle.mes_double_http.specs.declared.persistence.Persistence.{Persistence}
 use Rattle.mes_double_http.specs.declared.persistence.Persistence.TheVariants.{Close, Keep, KeepAlive}
 
@@ -57,3 +59,25 @@ call_rest size = codes "Connection: close\r\nContent-Length: " ++ decimal size +
 -- the head of a request whose body is a call of `size` bytes
 abbrev pub call_head : List ℕ → Option (List ℕ) → ℕ → List ℕ
 call_head host stream size = call_front host ++ stream_line stream ++ call_rest size
+
+-- the media type of the body (RFC 9110 section 8.3.1)
+abbrev pub media_type : PageMedia → List ℕ
+media_type Html = codes "text/html; charset=utf-8"
+media_type Json = codes "application/json"
+
+-- the line of the field Connection, or nothing, as in the head of a response without a body
+abbrev pub connection_line : Persistence → List ℕ
+connection_line Close = codes "Connection: close\r\n"
+connection_line Keep = []
+connection_line KeepAlive = codes "Connection: keep-alive\r\n"
+
+-- the head of the response with a page, whose body has `size` bytes: it is not stored, not shown in a
+-- frame, and only read as this media type
+abbrev pub page_head : Persistence → PageMedia → ℕ → List ℕ
+page_head persistence media size =
+    codes "HTTP/1.1 200 OK\r\nContent-Type: " ++ media_type media
+    ++ codes "\r\nContent-Length: " ++ decimal size
+    ++ codes "\r\nCache-Control: no-store"
+    ++ codes "\r\nContent-Security-Policy: frame-ancestors 'none'"
+    ++ codes "\r\nX-Content-Type-Options: nosniff\r\n"
+    ++ connection_line persistence ++ codes "\r\n"

@@ -9,6 +9,8 @@
 //!     write_ok(&mut sink, &id)?;
 //!
 //! [`RequestReader`] reads consecutive requests from bytes that come in pieces, by the same rules.
+//! It also reads the requests for the pages of a test master, and [`push_page_head`] appends the
+//! head of the response with a page.
 //!
 //! The contracts of the readers promise that exactly a valid head and its body were read, or that
 //! the error is the first fault ([`HeadFault`]). The tests check that a written call is read back.
@@ -24,6 +26,9 @@ mod host;
 mod limits;
 mod lines;
 mod media_type;
+mod page_request;
+mod page_rules;
+mod page_writer;
 mod persistence;
 mod request;
 mod request_reader;
@@ -40,6 +45,8 @@ pub use host::Host;
 pub use limits::{
     MAX_BODY, MAX_FIELDS, MAX_HEAD, MAX_HEAD_FAULT, MAX_HOST, MAX_LENGTH_DIGITS, MAX_STREAM_ID,
 };
+pub use page_request::{NextPage, PageRequest};
+pub use page_writer::{PageMedia, push_page_head};
 pub use persistence::Persistence;
 pub use request::{Request, read_request};
 pub use request_reader::{NextRequest, RequestReader};

@@ -1,7 +1,7 @@
 //! Reading of the requests on a connection whose bytes come in pieces. `request.rt` reads one
-//! request from a device by the same rules.
+//! request from a device by the same rules. `page_request.rt` reads the requests for a page.
 
-ghost use Rattle.std.specs.Prelude.{◌≡◌, ◌≢◌, ℕ, ◌≤◌, ◌↔◌, List, [], ◌++◌, Option, Some, length, take, OnOk, OnErr, IsTrue, IsNone, MatchOption, MatchResult};
+ghost use Rattle.std.specs.Prelude.{◌≡◌, ◌≢◌, ℕ, ◌≤◌, ◌↔◌, List, [], ◌++◌, ◌+◌, ◌<◌, Option, Some, length, take, drop, OnOk, OnErr, IfOk, IsTrue, IsNone, MatchOption, MatchResult};
 ghost use Rattle.httparse.specs.Grammar.{NeverHasRequest, EndsInTarget};
 ghost use Rattle.mes_double_http.specs.Heads.{PendsRequest};
 ghost use Rattle.mes_double_http.specs.Connections.{persistence};
@@ -124,21 +124,36 @@ impl RequestReader {
             Ok(None) => return NextRequest::More,
             Err(fault) => return NextRequest::Fault(fault),
         };
-        let behind = &left[found.size..];
         let length = found.announced.length;
-        if behind.len() < length {
+        if left.len() - found.size < length {
             return NextRequest::More;
         }
-        let mut body = Vec::new(self.alloc);
-        if body.extend_from_slice(&behind[..length]).is_err() {
-            return NextRequest::Fault(HeadFault::NoMemory);
-        }
-        self.taken += found.size + length;
+        let body = match self.take_body(found.size, length) {
+            Ok(body) => body,
+            Err(_) => return NextRequest::Fault(HeadFault::NoMemory),
+        };
         let request = Request {
             stream: found.announced.stream,
             body,
         };
         NextRequest::Whole(request, found.persistence)
+    }
+
+    /// Takes a head of `size` bytes and the body of `count` bytes after it, and returns the body.
+    /// Does not allocate for an empty body. Errors: an allocation failed; nothing is taken.
+    pub(crate) fn take_body(&mut self, size: usize, count: usize) -> Result<Vec<u8>, AllocError>
+        requires { size + count ≤ length self.old }
+        ensures ok { OnOk result (self.new ≡ drop count (drop size self.old)) }
+        ensures body { IfOk result (λ body. body.items ≡ take count (drop size self.old)) }
+        ensures err { OnErr result ((self.new ≡ self.old) × (0 < count)) }
+    {
+        let left = self.left();
+        let mut body = Vec::new(self.alloc);
+        if count > 0 {
+            body.extend_from_slice(&left[size..size + count])?;
+        }
+        self.taken += size + count;
+        Ok(body)
     }
 
     /// Returns the fault of the request that the connection's end cuts off, or `None` if no bytes
@@ -157,7 +172,7 @@ impl RequestReader {
     }
 
     /// Returns the bytes that came and are not taken.
-    fn left(&self) -> &[u8]
+    pub(crate) fn left(&self) -> &[u8]
         ensures { result.now ≡ self.now }
     {
         &self.bytes[self.taken..]
@@ -235,7 +250,7 @@ fn find_head(
 
 /// Returns the spans of the head at the start of these at most `MAX_HEAD` bytes, or `None` if the
 /// head may end later. Errors: the bytes begin with no head (H3).
-fn parse_head(
+pub(crate) fn parse_head(
     front: &[u8],
     headers: &mut [HeaderSpan; MAX_FIELDS],
 ) -> Result<Option<RequestSpans>, HeadFault>

@@ -5,6 +5,8 @@
 #[cfg(test)]
 mod limits;
 #[cfg(test)]
+mod pages;
+#[cfg(test)]
 mod received;
 #[cfg(test)]
 mod requests;

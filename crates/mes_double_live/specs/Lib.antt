@@ -1,3 +1,4 @@
 pub mod Bodies
 pub mod Lives
+pub mod Logs
 pub mod Moving

@@ -17,6 +17,7 @@
 mod fault;
 mod live;
 mod reply;
+mod run_log;
 mod settings;
 mod stream_body;
 mod taken_offers;
@@ -25,5 +26,6 @@ mod theorems;
 pub use fault::LiveFault;
 pub use live::Live;
 pub use reply::{EndedStream, Reply};
+pub use run_log::{LogEntry, MAX_LOG};
 pub use settings::Settings;
 pub use theorems::live_laws;

@@ -1,19 +1,25 @@
 //! The state of a live test master. `calling.rt` handles calls, `accepting.rt` ACCEPT, and
-//! `telling.rt` the events from outside.
-ghost use Rattle.std.specs.Prelude.{◌≡◌, ◌≤◌, option_copied};
-ghost use Rattle.mes_double_master.specs.Masters.{stream_broke};
-ghost use Rattle.mes_double_live.specs.Bodies.{empty, written, cleared};
+//! `telling.rt` the events from outside. `logging.rt` sends events and logs them, and `reading.rt`
+//! has the read access to the state.
+ghost use Rattle.std.specs.Prelude.{◌≡◌, ◌≤◌, option_copied, IfOk, OnOk};
+ghost use Rattle.mes_double_cluster.specs.Clusters.{offer_at};
+ghost use Rattle.mes_double_live.specs.Bodies.{empty, written, breaks_now};
+ghost use Rattle.mes_double_live.specs.Lives.{at_time, broke, faults_taken, new_live, update_sent};
 ghost use Rattle.mes_double_live.specs.Moving.{Moves};
 
 mod accepting;
 mod calling;
+mod logging;
+mod reading;
 mod telling;
 
 use crate::fault::LiveFault;
 use crate::reply::EndedStream;
+use crate::run_log::RunLog;
 use crate::settings::Settings;
 use crate::stream_body::StreamBody;
 use mes_double_cluster::{Cluster, SentUpdates};
+use mes_double_faults::{Fault, FaultPlan};
 use mes_double_http::StreamId;
 use mes_double_master::{Master, MasterRefusal};
 use mes_frame::{MAX_CHUNK, MIN_CHUNK};
@@ -47,6 +53,14 @@ pub struct Live {
     time: u64,
     /// The time of the next HEARTBEAT on the current stream.
     beats_at: u64,
+    /// The number of calls that are to be answered with 503, as standard input demands.
+    busy: u64,
+    /// The number of calls of the run. It stops at 2^32 - 1.
+    calls: u32,
+    /// The number of planned faults that [`Live::take_happened`] returned. It stops at 2^64 - 1.
+    taken: u64,
+    /// The last events sent and calls answered.
+    log: RunLog,
 }
 
 impl Model for Live {
@@ -58,16 +72,28 @@ impl Model for Live {
 
     ghost coded = { Prim.hlevel (codes, members_code) };
 
-    ghost view = { λ live. record { master = live.master; out = live.out } };
+    ghost view = { λ live. record {
+      master = live.master;
+      cluster = live.cluster;
+      sent = live.sent;
+      out = live.out;
+      busy = live.busy;
+      calls = live.calls;
+      time = live.time;
+      taken = live.taken;
+      log = live.log;
+    } };
 }
 
 impl Live {
-    /// Returns a live test master without a stream, at the time 0. Chunks have at most
-    /// `settings.most` bytes, from `MIN_CHUNK` to `MAX_CHUNK`. Does not allocate.
-    pub fn new(alloc: Global, master: Master, settings: &Settings) -> Live
+    /// Returns a live test master without a stream, at the time 0, with these planned faults of events
+    /// and calls. Chunks have at most `settings.most` bytes, from `MIN_CHUNK` to `MAX_CHUNK`. Does not
+    /// allocate.
+    pub fn new(alloc: Global, master: Master, settings: &Settings, plan: FaultPlan) -> Live
         requires least { MIN_CHUNK ≤ settings.now.most }
         requires greatest { settings.now.most ≤ MAX_CHUNK }
-        ensures { result ≡ record { master = master; out = empty settings.now.most } }
+        ensures { result ≡ new_live master settings.now.finish_after
+            (empty settings.now.most plan) }
     {
         Live {
             alloc,
@@ -75,10 +101,14 @@ impl Live {
             master,
             cluster: Cluster::new(alloc, settings.finish_after),
             sent: SentUpdates::new(alloc),
-            out: StreamBody::new(alloc, settings.most),
+            out: StreamBody::new(alloc, settings.most, plan),
             waiting: VecDeque::new(alloc),
             time: 0,
             beats_at: 0,
+            busy: 0,
+            calls: 0,
+            taken: 0,
+            log: RunLog::new(alloc),
         }
     }
 
@@ -115,6 +145,24 @@ impl Live {
         self.out.pending()
     }
 
+    /// Returns whether the current stream is to break now: a BREAK came, and all bytes before it are
+    /// written.
+    pub fn is_broken_off(&self) -> bool
+        ensures { result ≡ breaks_now self.now.out }
+    {
+        self.out.is_broken_off()
+    }
+
+    /// Returns the planned faults that happened since the last call, in order.
+    pub fn take_happened(&mut self) -> Vec<Fault>
+        ensures taken { result.items ≡ self.old.out.happened }
+        ensures rest { self.new ≡ faults_taken self.old }
+    {
+        let happened = self.out.take_happened();
+        self.taken = self.taken.saturating_add(happened.len() as u64);
+        happened
+    }
+
     /// Notes that the first `count` pending bytes were written.
     pub fn wrote(&mut self, count: usize)
         ensures { self.new ≡ record self.old { out = written count self.old.out } }
@@ -125,8 +173,7 @@ impl Live {
     /// Notes that the current stream was disconnected: its pending bytes are lost, no offer is
     /// outstanding, and calls get 403 until the next SUBSCRIBE.
     pub fn broken(&mut self)
-        ensures state { self.new
-            ≡ record { master = stream_broke self.old.master; out = cleared self.old.out } }
+        ensures state { self.new ≡ broke self.old }
         ensures moves { Moves self.old.master self.new.master }
     {
         self.master.broken();
@@ -163,8 +210,9 @@ impl Live {
         Ok(EndedStream { id, rest })
     }
 
-    /// Notes the time. Events that wait for the stream are sent if few bytes are pending; and so are
-    /// a HEARTBEAT, updates and offers that are due. A time before the latest one counts as that one.
+    /// Notes the time. Late events whose time has come may be written. Events that wait for the
+    /// stream are sent if few bytes are pending; and so are a HEARTBEAT, updates and offers that are
+    /// due. A time before the latest one counts as that one.
     pub fn passed(&mut self, now: u64) -> Result<(), LiveFault>
         // The test master changes only by its own deeds, and what these launch fits.
         ensures { Moves self.old.master self.new.master }
@@ -173,14 +221,22 @@ impl Live {
         if !self.has_stream() {
             return Ok(());
         }
+        self.release()?;
         self.deliver_waiting(MAX_AHEAD)?;
         self.beat_due()?;
         self.resend_due()?;
         self.send_due()
     }
 
+    /// Ends that bytes of a late event are held, if their time has come.
+    fn release(&mut self) -> Result<(), NoMemory>
+        ensures { self.new.master ≡ self.old.master }
+    {
+        self.out.release(self.time)
+    }
+
     fn note_time(&mut self, now: u64)
-        ensures { self.new ≡ self.old }
+        ensures { self.new ≡ at_time now self.old }
     {
         self.time = self.time.max(now);
     }
@@ -200,12 +256,16 @@ impl Live {
     /// stream.
     pub fn first_due(&self) -> Option<u64> {
         self.master.stream()?;
-        if !self.waiting.is_empty() && self.out.pending().len() <= MAX_AHEAD {
+        if !self.waiting.is_empty() && self.out.takes_more(MAX_AHEAD) {
             return Some(self.time);
         }
         let first = match self.cluster.first_due() {
             Some(due) => due.min(self.beats_at),
             None => self.beats_at,
+        };
+        let first = match self.out.until() {
+            Some(due) => due.min(first),
+            None => first,
         };
         match self.first_resend() {
             Some(due) => Some(due.min(first)),
@@ -230,7 +290,7 @@ impl Live {
             return Ok(());
         }
         self.beats_at = self.time.saturating_add(self.settings.heartbeat);
-        self.out.push(&Event::Heartbeat)
+        self.out.beat()
     }
 
     /// Sends the updates again whose time has come.
@@ -267,7 +327,7 @@ impl Live {
         match self.master.resend(index) {
             Ok(event) => {
                 self.sent.sent_again(index, self.time);
-                self.out.push(&event)
+                self.push(&event)
             }
             Err(MasterRefusal::NoMemory) => Err(LiveFault::NoMemory),
             Err(_) => Ok(()),
@@ -350,13 +410,14 @@ impl Live {
     {
         self.cluster.reported(index, status.state, self.time);
         self.note_sent(status)?;
-        self.out.push(event)
+        self.push(event)
     }
 
     /// Notes the time at which an update was sent for the first time, if it requires an
     /// acknowledgement.
     fn note_sent(&mut self, status: &TaskStatus) -> Result<(), NoMemory>
-        ensures { self.new ≡ self.old }
+        ensures same { self.new.master ≡ self.old.master }
+        ensures noted { OnOk result (self.new ≡ update_sent status.now self.old) }
     {
         match status.owed_key(self.alloc)? {
             Some(key) => self.sent.push(key, self.time),
@@ -372,7 +433,7 @@ impl Live {
         if made.is_empty() {
             return Ok(());
         }
-        self.out.push(&Event::Offers(List::new(made)))
+        self.push(&Event::Offers(List::new(made)))
     }
 
     /// Makes the offers that are due.
@@ -403,7 +464,10 @@ impl Live {
 
     /// Returns the offer at an index of the stock under a new identifier, if it is due.
     fn next_offer(&mut self, index: usize) -> Result<Option<Offer>, NoMemory>
-        ensures { self.new ≡ self.old }
+        ensures offer { IfOk result (λ offer. (offer, self.new.cluster)
+            ≡ offer_at index self.old.time self.old.cluster) }
+        ensures rest { self.new ≡ record self.old { cluster = self.new.cluster } }
+        ensures same { self.new.master ≡ self.old.master }
     {
         self.cluster.offer_at(index, self.time)
     }

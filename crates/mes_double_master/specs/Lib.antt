@@ -1,4 +1,5 @@
 pub mod Masters
 pub mod Memory
+pub mod Names
 pub mod Sending
 pub mod Runs

@@ -14,10 +14,12 @@
 
 mod answer;
 mod master;
+mod names;
 mod refusal;
 mod theorems;
 
 pub use answer::Answer;
 pub use master::Master;
+pub use names::{call_name, event_name};
 pub use refusal::MasterRefusal;
 pub use theorems::master_laws;

@@ -99,7 +99,14 @@ impl Master {
         }
     }
 
-    /// Returns the id of the current stream. Neither this nor another getter allocates.
+    /// Returns the identifier of the framework. Neither this nor another getter allocates.
+    pub fn framework(&self) -> &Id
+        ensures { result.now ≡ self.now.framework }
+    {
+        &self.framework
+    }
+
+    /// Returns the id of the current stream.
     pub fn stream(&self) -> Option<&StreamId>
         ensures { option_copied result ≡ self.now.stream }
     {

@@ -187,10 +187,6 @@ next-represents s t e same h represents = subst (λ (u : Held). Represents (h ++
 pub applied : (s t : Held) (call : Call) → Answers s call None → t ≡ after s (Said call) → Applied s call t
 applied s t call accepted next = record { accepted = accepted; next = next; represents = next-represents s t (Said call) next }
 
-pub applied_at : (held s t : Held) (call : Call) (answer : Option Refusal) → held ≡ s → answer ≡ None → Answers held call answer → t ≡ after s (Said call) → Applied s call t
-applied_at held s t call answer same none answers next =
-    applied s t call (subst (λ (u : Held). Answers u call None) same (subst (λ (o : Option Refusal). Answers held call o) none answers)) next
-
 -- ---- a SUBSCRIBE of the known framework is never refused
 
 subscribe-fits : (s : Held) (info : FrameworkInfo) (fault : Refusal) → IsFaulty s (subscribe_call s.framework info) fault → ⊥

@@ -20,7 +20,7 @@ mod theorems;
 
 pub use line::{MAX_REFUSAL_LINE, refusal_line};
 pub use mes_msg::Entry;
-pub use mes_session_log::{read_log, write_log};
+pub use mes_session_log::{encode_entry, read_log, write_log};
 pub use mes_session_state::Refusal;
 pub use replaying::replay;
 pub use session::Session;

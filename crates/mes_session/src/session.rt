@@ -132,6 +132,21 @@ impl Session {
         Ok(())
     }
 
+    /// Checks a call as [`said`](Self::said) does, but does not apply it. Does not allocate. Errors:
+    /// the first of the reasons S1 to S7 that applies, never S8.
+    pub fn check(&self, call: &Call) -> Result<(), Refusal>
+        // On success: the call is allowed.
+        ensures ok { OnOk result (Answers self.now call.now None) }
+
+        // Each error is the first reason against the call.
+        ensures err { IfErr result (λ refusal. Answers self.now call.now (Some refusal)) }
+    {
+        match self.standing().refusal(call) {
+            Some(refusal) => Err(refusal),
+            None => Ok(()),
+        }
+    }
+
     /// Applies a call that is sent to the master. ACCEPT and DECLINE remove the offers that they
     /// name; ACKNOWLEDGE removes the key that it names. Does not allocate. Errors: the first of the
     /// reasons S1 to S7 that applies, never S8; the session is then unchanged.
@@ -143,9 +158,7 @@ impl Session {
         ensures err { IfErr result (λ refusal. Answers self.old call.now (Some refusal)) }
         ensures same { OnErr result (self.new ≡ self.old) }
     {
-        if let Some(refusal) = self.standing().refusal(call) {
-            return Err(refusal);
-        }
+        self.check(call)?;
         self.apply(call);
         Ok(())
     }

@@ -1,6 +1,6 @@
-//! Encoding of entries as the records of a session log. `write.rt` writes them.
+//! Encoding of entries as the records of a session log. `write.rt` writes a whole log.
 
-ghost use Rattle.std.specs.Prelude.{◌≡◌, ◌-◌, ◌^◌, ◌<◌, ◌∷◌, ◌++◌, length, OnOk, IfOk, IfErr};
+ghost use Rattle.std.specs.Prelude.{◌≡◌, ◌-◌, ◌^◌, ◌<◌, [], ◌∷◌, ◌++◌, length, OnOk, IfOk, IfErr};
 ghost use Rattle.mes_frame.specs.Frames.{record_bytes};
 ghost use Rattle.mes_msg.specs.Texts.{IsTextOf, canonical_of};
 ghost use Rattle.mes_session_log.specs.Encoding.{AddsEntry, IsEntryFault, IsMessageUnfit};
@@ -33,6 +33,17 @@ pub fn encode_log(alloc: Global, entries: &[Entry], limit: Limit) -> Result<Vec<
         }
     }
     Ok(log)
+}
+
+/// Returns the record of an entry in a log of version 2. Errors: the entry does not fit a record of
+/// `limit` bytes, or out of memory.
+pub fn encode_entry(alloc: Global, entry: &Entry, limit: Limit) -> Result<Vec<u8>, EncodeFault>
+    ensures ok { IfOk result (λ bytes. AddsEntry limit entry.now [] bytes.items) }
+    ensures err { IfErr result (IsEntryFault limit entry.now) }
+{
+    let mut record = Vec::new(alloc);
+    put_entry(alloc, entry, limit, &mut record)?;
+    Ok(record)
 }
 
 fn put_entry(

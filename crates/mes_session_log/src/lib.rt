@@ -18,7 +18,7 @@ mod read;
 mod theorems;
 mod write;
 
-pub use encode::encode_log;
+pub use encode::{encode_entry, encode_log};
 pub use read::read_log;
 pub use theorems::log_reading_is_unique;
 pub use write::write_log;

@@ -16,7 +16,7 @@ use Rattle.mes_msg.specs.RecordFaults.{of_read}
 use Rattle.mes_msg.specs.Texts.{IsFaultOf}
 use Rattle.mes_msg.specs.RecordFault.{RecordFault}
 use Rattle.mes_msg.specs.RecordFault.TheVariants as message
-use Rattle.mes_stream.proofs.EventLemmas.{exact_fault}
+use Rattle.mes_stream.proofs.MessageLemmas.{exact_fault}
 use Rattle.mes_stream.specs.Refusals.{refusal_of}
 use Rattle.mes_stream.specs.declared.record_error.RecordError.{RecordError}
 use Rattle.mes_stream.specs.declared.record_error.RecordError.TheVariants as refusal

@@ -3,7 +3,7 @@
 use crate::support::{BROKEN, READS, SUBSCRIBED};
 use mes_frame::{Limit, MemorySink, MemorySource, MemoryStop, WriteFault, WriteFaultKind};
 use mes_msg::{EncodeFaultKind, Entry, SendFault};
-use mes_session_log::{read_log, write_log};
+use mes_session_log::{encode_entry, encode_log, read_log, write_log};
 use std::alloc::Global;
 use std::process::Abort;
 use std::test::Fail;
@@ -51,7 +51,23 @@ fn expect_written<A: Abort>(
         Ok(())
     );
     assert_eq!(rt; as_text(sink.bytes()), as_text(written));
+    let records = records_of(alloc, entries.as_slice(), limit_of(limit)?)?;
+    assert_eq!(rt; as_text(records.as_slice()), as_text(written));
     Ok(())
+}
+
+/// Returns the header of a log and the records of the entries, encoded one by one.
+fn records_of(alloc: Global, entries: &[Entry], limit: Limit) -> Result<Vec<u8>, Fail> {
+    let Ok(mut records) = encode_log(alloc, &[], limit) else {
+        return Err("a header")?;
+    };
+    for entry in entries {
+        match encode_entry(alloc, entry, limit) {
+            Ok(record) => records.extend_from_slice(record.as_slice())?,
+            Err(_) => return Err("a record")?,
+        }
+    }
+    Ok(records)
 }
 
 /// Writes the entries of a log under a limit, and expects that the entry at the given index is too

@@ -2,7 +2,7 @@
 //!
 //! A line is `ACTION => RESULT | STATE`. The action is one of:
 //! - `E` and an event that is received;
-//! - `C` and a call that is applied with `said`;
+//! - `C` and a call that is checked with `check` and applied with `said`;
 //! - `M` and a call that the session is asked to make;
 //! - `B`, a disconnect.
 //!
@@ -155,9 +155,13 @@ fn hear(alloc: Global, session: &mut Session, text: &str) -> Result<String, Fail
 
 fn say(alloc: Global, session: &mut Session, text: &str) -> Result<String, Fail> {
     let call = call_of(alloc, text)?;
-    let answer = in_words(alloc, session.said(&call));
+    let checked = in_words(alloc, session.check(&call))?;
+    let answer = in_words(alloc, session.said(&call))?;
     drop(call);
-    answer
+    if checked.as_str() != answer.as_str() {
+        return Err("`check` returns what `said` returns")?;
+    }
+    Ok(answer)
 }
 
 /// Makes a call with the arguments of another call, and compares its canonical text to `text`.

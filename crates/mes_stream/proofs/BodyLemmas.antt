@@ -27,7 +27,7 @@ last_of : (a : ℕ) (r : List ℕ) → (front : List ℕ) × (last : ℕ) × (a 
 last_of a [] = ([], a, refl)
 last_of a (b ∷ r) = let h = last_of b r in (a ∷ h.0, h.1, ap (λ (x : List ℕ). a ∷ x) h.2)
 
-last_split : (r : List ℕ) → r ≢ [] → (front : List ℕ) × (last : ℕ) × (r ≡ front ++ last ∷ [])
+pub last_split : (r : List ℕ) → r ≢ [] → (front : List ℕ) × (last : ℕ) × (r ≡ front ++ last ∷ [])
 last_split [] some = absurd (some refl)
 last_split (a ∷ r) some = last_of a r
 

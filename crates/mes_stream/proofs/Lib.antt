@@ -3,10 +3,19 @@ pub mod BodyLemmas
 mod ChunkLemmas
 mod DecoderLemmas
 mod EntryLemmas
-pub mod EventLemmas
+pub mod MessageLemmas
 mod FramingLemmas
 mod GatherLemmas
 mod Grows
+mod InputLemmas
+pub mod LineFeeds
+pub mod LineLemmas
+pub mod LineRecords
+mod LineOutcome
+mod LineTooLong
+mod LinesLaw
+pub mod LinesMore
+mod LinesSome
 mod OutcomeLaw
 mod PieceLaw
 mod PlainLaw

@@ -21,18 +21,18 @@ use Rattle.mes_stream.specs.declared.stream_reader.Framing.TheVariants.{Plain, C
 use Rattle.mes_stream.proofs.PlainLaw.{no_rest}
 
 -- decoding stopped with this error after `used` bytes
-record StopsBy (stop : Stop) (fault : Fault) (used : ℕ) : Type 0 where
-  fault_is : stop.fault ≡ fault
-  count : stop.used ≡ saturated (0 + used)
+pub record StopsBy (stop : Stop) (fault : Fault) (used : ℕ) : Type 0 where
+  pub fault_is : stop.fault ≡ fault
+  pub count : stop.used ≡ saturated (0 + used)
 
-same_stop : (s t : Stop) (fault : Fault) (used : ℕ) → StopsBy s fault used → StopsBy t fault used → s ≡ t
+pub same_stop : (s t : Stop) (fault : Fault) (used : ℕ) → StopsBy s fault used → StopsBy t fault used → s ≡ t
 same_stop s t fault used h k = ap₂ (λ (f : Fault) (n : ℕ). let stop : Stop = record { fault = f; used = n } in stop) (h.fault_is ∙ sym k.fault_is) (h.count ∙ sym k.count)
 
 -- all bytes w of a device: `front` and `rest`, which were consumed, and `left`
-whole_of : (w taken left front rest : List ℕ) → w ≡ taken ++ left → taken ≡ front ++ rest → w ≡ front ++ (rest ++ left)
+pub whole_of : (w taken left front rest : List ℕ) → w ≡ taken ++ left → taken ≡ front ++ rest → w ≡ front ++ (rest ++ left)
 whole_of w taken left front rest all is = all ∙ ap (λ (y : List ℕ). y ++ left) is ∙ append_assoc front rest left
 
-all_taken : (w taken left : List ℕ) → w ≡ taken ++ left → left ≡ [] → taken ≡ w
+pub all_taken : (w taken left : List ℕ) → w ≡ taken ++ left → left ≡ [] → taken ≡ w
 all_taken w taken left all none = sym (append-nil taken) ∙ ap (λ (y : List ℕ). taken ++ y) (sym none) ∙ sym all
 
 -- ---- the outcome for the bytes of a chunked stream

@@ -6,7 +6,7 @@ use Rattle.mes_msg.specs.Events.{Spells}
 use Rattle.mes_msg.specs.Event.{Event}
 use Rattle.mes_stream.specs.Chunked.{Live}
 use Rattle.mes_stream.specs.Decoders.{DecoderRepresents, DecoderStateRepresents, answer_of}
-use Rattle.mes_stream.specs.EventData.{HoldsData}
+use Rattle.mes_stream.specs.MessageData.{HoldsData}
 use Rattle.mes_stream.specs.Framings.{SaysIn}
 use Rattle.mes_stream.specs.Pieces.{DecodeOutcome, decoded, after_call, Decodes, joined, HadMemory}
 use Rattle.mes_stream.specs.Refusals.{IsEventRefusal}
@@ -16,7 +16,7 @@ use Rattle.mes_stream.specs.declared.decoder.State.{State}
 use Rattle.mes_stream.specs.declared.decoder.State.TheVariants as state
 use Rattle.mes_stream.specs.declared.decoder.StreamEnd.{StreamEnd}
 use Rattle.mes_stream.specs.declared.decoder.StreamEnd.TheVariants.{Closed, Failed}
-use Rattle.mes_stream.specs.declared.event_reader.EventReader.{EventReader}
+use Rattle.mes_stream.specs.declared.message_reader.MessageReader.{MessageReader}
 use Rattle.mes_stream.specs.declared.fault.Fault.{Fault}
 use Rattle.mes_stream.specs.declared.fault.Fault.TheVariants.{NoMemory}
 use Rattle.mes_stream.specs.declared.stream_reader.Framing.TheVariants.{Chunked}
@@ -36,7 +36,7 @@ abbrev Reached : ℕ → List ℕ → List Event → List ℕ → ℕ → Option
 Reached limit w events all used None = (used ≡ length all) × Live Spells limit (w ++ all) events
 Reached limit w events all used (Some end) = (0 < used) × (used ≤ length all) × SaysIn Chunked Any Spells IsEventRefusal 0 limit w events all used (answer_of end)
 
-live_at : (s : State EventReader) (limit : ℕ) (w : List ℕ) (events : List Event) → DecoderStateRepresents HoldsData Spells s limit w events → Live Spells limit w events
+live_at : (s : State (MessageReader Event)) (limit : ℕ) (w : List ℕ) (events : List Event) → DecoderStateRepresents HoldsData Spells s limit w events → Live Spells limit w events
 live_at (state.Going stream) limit w events h = goes_of HoldsData Spells stream Chunked limit w events h
 live_at (state.Ended end) limit w events h = absurd h
 
@@ -81,7 +81,7 @@ as_outcome : (limit : ℕ) (w : List ℕ) (events : List Event) (all : List ℕ)
     → Reached limit w (events ++ outcome.events) all outcome.used outcome.end
 as_outcome limit w events all outcome other is h = subst (λ (o : DecodeOutcome). Reached limit w (events ++ o.events) all o.used o.end) (sym is) h
 
-reached : (limit : ℕ) (d : RecordDecoder EventReader) (pieces : List (List ℕ)) (calls : List (ℕ × Decoded Event Fault)) (outcome : DecodeOutcome) (w : List ℕ) (events : List Event) → DecoderRepresents HoldsData Spells d limit w events
+reached : (limit : ℕ) (d : RecordDecoder (MessageReader Event)) (pieces : List (List ℕ)) (calls : List (ℕ × Decoded Event Fault)) (outcome : DecodeOutcome) (w : List ℕ) (events : List Event) → DecoderRepresents HoldsData Spells d limit w events
     → Decodes d pieces calls outcome → Reached limit w (events ++ outcome.events) (joined pieces) outcome.used outcome.end
 reached limit d [] [] outcome w events represents is =
     let live : Live Spells limit (w ++ []) (events ++ []) = rw (append-nil w, append-nil events) (live_at d.state limit w events represents) in
@@ -170,7 +170,7 @@ same_of limit w events others used more (Some (Failed fault)) (Some (Failed othe
     make_same events others (Some (Failed fault)) (Some (Failed other)) used more values (ap (λ (f : Fault). Some (Failed f)) faults) (omega (arith, places, some, too))
 
 pub one_decoding : ((limit : ℕ) (w : List ℕ) (reading other : StreamReading Event) → ReadsStream Spells IsEventRefusal 0 limit w reading → ReadsStream Spells IsEventRefusal 0 limit w other → reading ≡ other)
-    → (limit : ℕ) (first second : RecordDecoder EventReader) (pieces others : List (List ℕ)) (calls more : List (ℕ × Decoded Event Fault)) (outcome other : DecodeOutcome)
+    → (limit : ℕ) (first second : RecordDecoder (MessageReader Event)) (pieces others : List (List ℕ)) (calls more : List (ℕ × Decoded Event Fault)) (outcome other : DecodeOutcome)
     → DecoderRepresents HoldsData Spells first limit [] [] → DecoderRepresents HoldsData Spells second limit [] [] → joined pieces ≡ joined others
     → Decodes first pieces calls outcome → Decodes second others more other → HadMemory outcome → HadMemory other → outcome ≡ other
 one_decoding one limit first second pieces others calls more outcome other starts begins same decodes also memory too =

@@ -1,11 +1,11 @@
 -- The reading of a stream, piece by piece and at the end of the input.
-use Rattle.std.proofs.Common.{◌≡◌, ℕ, ◌+◌, ◌-◌, ◌<◌, ◌≤◌, Option, List, [], ◌∷◌, ◌++◌, length, take, drop, sym, ◌∙◌, ap, append_assoc, append-nil, arith, length-append, length-take-le, take-append-drop, Result, Ok, Err, inl, inr, subst}
+use Rattle.std.proofs.Common.{◌≡◌, ℕ, ◌+◌, ◌-◌, ◌<◌, ◌≤◌, Option, List, [], ◌∷◌, ◌++◌, length, take, drop, refl, sym, ◌∙◌, ap, append_assoc, append-nil, arith, length-append, length-take-le, take-append-drop, Result, Ok, Err, inl, inr, subst}
 use Rattle.std.proofs.lemmas.List.{take_more}
 use Rattle.std.specs.Prelude.{OnOk, IfErr, slice_index}
 use Rattle.mes_frame.specs.declared.counts.Counts.{Counts}
 use Rattle.mes_stream.specs.Framings.{GoesIn, EndsIn, WholeIn, EndsRecordIn, ByteStopsIn, StopsWithin}
 use Rattle.mes_stream.specs.Reads.{EndsReads}
-use Rattle.mes_stream.specs.Reading.{Ahead, nothing_ahead, EndsAt, ByteEndsAfter, EndsReading, ReadingRepresents, ReadingRepresentsAfter, ReadingTakesAfter, Means, Collects, GathersLast, reported_as}
+use Rattle.mes_stream.specs.Reading.{Ahead, nothing_ahead, EndsAt, ByteEndsAfter, EndsReading, ReadingRepresents, ReadingRepresentsAfter, ReadingTakesAfter, FinishMeans, MeansAfter, Collects, GathersLast, reported_as}
 use Rattle.mes_stream.specs.Stream.{saturated, Records, EndsRecord, HasValue}
 use Rattle.mes_stream.specs.Held.{held_by_reading}
 use Rattle.mes_stream.specs.StreamReaders.{KeepsNoneAfterStop}
@@ -19,8 +19,10 @@ use Rattle.mes_stream.specs.declared.read_loop.ReadsEnd.{ReadsEnd}
 use Rattle.mes_stream.specs.declared.read_loop.ReadsEnd.TheVariants.{Stopped, AtEnd, Failed, Spent}
 use Rattle.mes_stream.specs.declared.record_error.RecordError.{RecordError}
 use Rattle.mes_stream.specs.declared.stream_reader.Framing.{Framing}
-use Rattle.mes_stream.specs.declared.stream_reader.Framing.TheVariants.{Plain, Chunked}
+use Rattle.mes_stream.specs.declared.stream_reader.Framing.TheVariants.{Plain, Chunked, Lines}
+use Rattle.mes_stream.specs.JsonLines.{AreLines, EndsLine}
 use Rattle.mes_stream.proofs.BodyLemmas.{records_more, stops_in}
+use Rattle.mes_stream.proofs.LinesMore.{lines_more}
 
 -- a byte of the piece ended the stream
 pub ends_at : {E : Type 0} (framing : Framing) (spells : List ℕ → E → Type 0) (ahead : Ahead) (limit : ℕ) (w piece : List ℕ) (values : List E) (used end after : ℕ) (rest : List ℕ) → 0 < end → end ≤ length piece → length piece ≤ MAX_READ
@@ -52,10 +54,16 @@ record_whole : {E : Type 0} (spells : List ℕ → E → Type 0) (limit : ℕ) (
 record_whole spells limit b values c value ends =
     rw (ends.spelt, append_assoc) (records_more {R = Unit {0}} (λ d r. Unit {0}) spells 0 limit ends.whole (ends.x ++ c ∷ []) ends.is.0 values value ends.records ends.is.1 ends.is.2.1)
 
+line_whole : {E : Type 0} (spells : List ℕ → E → Type 0) (limit : ℕ) (b : List ℕ) (values : List E) (c : ℕ) (value : E) → EndsLine spells limit b values c (HasValue spells value)
+    → AreLines spells limit (b ++ c ∷ []) (values ++ value ∷ [])
+line_whole spells limit b values c value (last, ends) =
+    rw (last, ends.spelt, append_assoc) (lines_more spells limit ends.whole ends.x ends.is.0 values value ends.lines ends.is.1 ends.is.2.1)
+
 whole_more : {E : Type 0} (framing : Framing) (spells : List ℕ → E → Type 0) (limit : ℕ) (u : List ℕ) (values : List E) (c : ℕ) (value : E) → EndsRecordIn framing spells limit u values c value
     → WholeIn framing spells limit (u ++ c ∷ []) (values ++ value ∷ [])
 whole_more Plain spells limit u values c value ends = record_whole spells limit u values c value ends
 whole_more Chunked spells limit u values c value (body, before, following, ends) = (body ++ c ∷ [], following, record_whole spells limit body values c value ends)
+whole_more Lines spells limit u values c value ends = line_whole spells limit u values c value ends
 
 pub whole_at : {E : Type 0} (framing : Framing) (spells : List ℕ → E → Type 0) (limit : ℕ) (w piece : List ℕ) (values : List E) (value : E) (used : ℕ) → 0 < used → used ≤ length piece
     → EndsRecordIn framing spells limit (w ++ take (used - 1) piece) values (slice_index piece (used - 1)) value → WholeIn framing spells limit (w ++ take used piece) (values ++ value ∷ [])
@@ -105,16 +113,26 @@ module _ {R E : Type 0} (holds : R → List ℕ → Type 0) (spells : List ℕ �
     none,
   )
 
+  -- the report, if the input did not end
+  pub finish_other : (d : Reading R) (end : ReadsEnd ReadingStop) (values : List E) (answer : Result Report Stop) → (end ≡ AtEnd → ⊥) → ((ahead : Ahead) → MeansAfter holds spells ahead d end answer)
+      → FinishMeans holds spells breaks d end values values answer
+  finish_other d (Stopped stop) values answer not means = (refl, means nothing_ahead)
+  finish_other d AtEnd values answer not means = absurd (not refl)
+  finish_other d Failed values answer not means = (refl, means)
+  finish_other d Spent values answer not means = (refl, means)
+
   -- how the reading of the stream ended, from how the reads of the device ended
-  pub read_through : (kept : R → ℕ) (first now : Reading R) (start to : List E) (framing : Framing) (limit reads : ℕ) (old new : Counts) (last : Option (List ℕ)) (w : List ℕ) (end : ReadsEnd ReadingStop) (answer : Result Report Stop)
-      → ReadingRepresents holds spells first framing limit [] [] → EndsReads (Collects holds spells first start now to) (GathersLast holds spells breaks kept first start now to) reads old new last w end → Means holds spells now end answer
-      → (more : List E) × (to ≡ start ++ more) × EndsReading framing spells breaks limit reads old new last w more answer
-  read_through kept first now start to framing limit reads old new last w (Stopped stop) answer represents (front, piece, at, stops, asked) is =
+  pub read_through : (kept : R → ℕ) (first now : Reading R) (start to all : List E) (framing : Framing) (limit reads : ℕ) (old new : Counts) (last : Option (List ℕ)) (w : List ℕ) (end : ReadsEnd ReadingStop) (answer : Result Report Stop)
+      → ReadingRepresents holds spells first framing limit [] [] → EndsReads (Collects holds spells first start now to) (GathersLast holds spells breaks kept first start now to) reads old new last w end
+      → FinishMeans holds spells breaks now end to all answer → (more : List E) × (all ≡ start ++ more) × EndsReading framing spells breaks limit reads old new last w more answer
+  read_through kept first now start to all framing limit reads old new last w (Stopped stop) answer represents (front, piece, at, stops, asked) (same, is) =
       let h = stops.0 nothing_ahead framing limit [] [] represents in
-      (h.0, h.1, inl (rw (is, at.is) h.2, asked))
-  read_through kept first now start to framing limit reads old new last w AtEnd answer represents (goes, end, asked) means =
-      let h = goes nothing_ahead framing limit [] [] represents in (h.0, h.1, inr (inl (means framing limit w h.0 h.2, end, asked)))
-  read_through kept first now start to framing limit reads old new last w Failed answer represents (goes, asked) means =
-      let h = goes nothing_ahead framing limit [] [] represents in (h.0, h.1, inr (inr (inl (means framing limit w h.0 h.2, asked))))
-  read_through kept first now start to framing limit reads old new last w Spent answer represents (goes, asked) means =
-      let h = goes nothing_ahead framing limit [] [] represents in (h.0, h.1, inr (inr (inr (means framing limit w h.0 h.2, asked))))
+      (h.0, same ∙ h.1, inl (rw (is, at.is) h.2, asked))
+  read_through kept first now start to all framing limit reads old new last w AtEnd answer represents (goes, end, asked) means =
+      let h = goes nothing_ahead framing limit [] [] represents in
+      let m = means nothing_ahead framing limit w h.0 h.2 in
+      (h.0 ++ m.0, m.1 ∙ ap (λ (x : List E). x ++ m.0) h.1 ∙ append_assoc start h.0 m.0, inr (inl (m.2, end, asked)))
+  read_through kept first now start to all framing limit reads old new last w Failed answer represents (goes, asked) (same, means) =
+      let h = goes nothing_ahead framing limit [] [] represents in (h.0, same ∙ h.1, inr (inr (inl (means nothing_ahead framing limit w h.0 h.2, asked))))
+  read_through kept first now start to all framing limit reads old new last w Spent answer represents (goes, asked) (same, means) =
+      let h = goes nothing_ahead framing limit [] [] represents in (h.0, same ∙ h.1, inr (inr (inr (means nothing_ahead framing limit w h.0 h.2, asked))))

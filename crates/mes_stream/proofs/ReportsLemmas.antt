@@ -6,13 +6,15 @@ use Rattle.mes_frame.specs.declared.chunk.ChunkState.{ChunkState}
 use Rattle.mes_frame.specs.declared.record.RecordState.{RecordState}
 use Rattle.mes_stream.specs.Decoding.{ChunkedRepresents}
 use Rattle.mes_stream.specs.Framings.{SaysIn}
+use Rattle.mes_stream.specs.LineBodies.{LineRepresents}
 use Rattle.mes_stream.specs.StreamReaders.{StreamRepresents}
 use Rattle.mes_stream.specs.Taking.{BodyRepresents, Reports, record_answer}
 use Rattle.mes_stream.specs.declared.record_body.Body.{Body}
 use Rattle.mes_stream.specs.declared.chunked_body.ChunkedBody.{ChunkedBody}
+use Rattle.mes_stream.specs.declared.line_body.LineBody.{LineBody}
 use Rattle.mes_stream.specs.declared.record_error.RecordError.{RecordError}
 use Rattle.mes_stream.specs.declared.stream_reader.Framing.{Framing}
-use Rattle.mes_stream.specs.declared.stream_reader.Framing.TheVariants.{Plain, Chunked}
+use Rattle.mes_stream.specs.declared.stream_reader.Framing.TheVariants.{Plain, Chunked, Lines}
 use Rattle.mes_stream.specs.declared.stream_reader.StreamReader.TheVariants as reader
 use Rattle.mes_stream.specs.declared.fault.Fault.{Fault}
 use Rattle.mes_stream.specs.declared.step.Decoded.{Decoded}
@@ -80,3 +82,12 @@ module _ {R E : Type 0} (holds : R → List ℕ → Type 0) (spells : List ℕ �
       (subst (λ (f : Framing). Reports holds spells breaks ahead f (λ after. StreamRepresents holds spells ahead (reader.Chunked (record { chunks = d.chunks; body = after })) f (limit_of d.body.records)) d.body (limit_of d.body.records) w values run used told) (sym is)
       (tells_of holds spells breaks ahead Chunked (λ after. ChunkedRepresents holds spells ahead (record { chunks = d.chunks; body = after })) (λ after. StreamRepresents holds spells ahead (reader.Chunked (record { chunks = d.chunks; body = after })) Chunked (limit_of d.body.records)) d.body (limit_of d.body.records) w run values used told
       (λ after records v vs represents. (refl, represents, ap (λ (t : RecordState). limit_of t) records)) h))
+
+  pub lines_tells : (d : LineBody R) (framing : Framing) (limit : ℕ) (w run : List ℕ) (values : List E) (used : ℕ) (told : Decoded (Unit {0}) Fault) → framing ≡ Lines → d.limit ≡ limit
+      → Reports holds spells breaks ahead Lines (λ after. LineRepresents holds spells ahead (record { limit = d.limit; count = d.count; cr = d.cr; line_feeds = d.line_feeds; body = after })) d.body d.limit w values run used told
+      → Reports holds spells breaks ahead framing (λ after. StreamRepresents holds spells ahead (reader.Lines (record { limit = d.limit; count = d.count; cr = d.cr; line_feeds = d.line_feeds; body = after })) framing limit) d.body limit w values run used told
+  lines_tells d framing limit w run values used told is same h =
+      subst (λ (n : ℕ). Reports holds spells breaks ahead framing (λ after. StreamRepresents holds spells ahead (reader.Lines (record { limit = d.limit; count = d.count; cr = d.cr; line_feeds = d.line_feeds; body = after })) framing n) d.body n w values run used told) same
+      (subst (λ (f : Framing). Reports holds spells breaks ahead f (λ after. StreamRepresents holds spells ahead (reader.Lines (record { limit = d.limit; count = d.count; cr = d.cr; line_feeds = d.line_feeds; body = after })) f d.limit) d.body d.limit w values run used told) (sym is)
+      (tells_of holds spells breaks ahead Lines (λ after. LineRepresents holds spells ahead (record { limit = d.limit; count = d.count; cr = d.cr; line_feeds = d.line_feeds; body = after }))
+      (λ after. StreamRepresents holds spells ahead (reader.Lines (record { limit = d.limit; count = d.count; cr = d.cr; line_feeds = d.line_feeds; body = after })) Lines d.limit) d.body d.limit w run values used told (λ after records v vs represents. (refl, represents, refl)) h))

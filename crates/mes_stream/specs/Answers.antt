@@ -10,7 +10,7 @@ use Rattle.mes_stream.specs.declared.fault.Fault.TheVariants.{NoMemory, Read, Re
 use Rattle.mes_stream.specs.declared.fault.Report.{Report}
 use Rattle.mes_stream.specs.declared.fault.Stop.{Stop}
 use Rattle.mes_stream.specs.declared.stream_reader.Framing.{Framing}
-use Rattle.mes_stream.specs.declared.stream_reader.Framing.TheVariants.{Plain, Chunked}
+use Rattle.mes_stream.specs.declared.stream_reader.Framing.TheVariants.{Plain, Chunked, Lines}
 
 -- reading a device with the bytes w, at most `reads` times, gave the events and the outcome
 pub record AnswersIn (framing : Framing) (limit : ℕ) (w : List ℕ) (events : List Event) (outcome : Result Report Stop) : Type 0 where
@@ -22,12 +22,15 @@ pub record AnswersIn (framing : Framing) (limit : ℕ) (w : List ℕ) (events : 
   pub consumes : Consumes (Some w) left taken
   pub ends : EndsReading framing Spells IsEventRefusal limit reads old new left taken events outcome
 
--- `AnswersIn` for `read_stream`, and for `read_plain`
+-- `AnswersIn` for `read_stream`, for `read_plain`, and for JSON Lines
 abbrev pub AnswersStream : ℕ → List ℕ → List Event → Result Report Stop → Type 0
 AnswersStream limit w events outcome = AnswersIn Chunked limit w events outcome
 
 abbrev pub AnswersPlain : ℕ → List ℕ → List Event → Result Report Stop → Type 0
 AnswersPlain limit w events outcome = AnswersIn Plain limit w events outcome
+
+abbrev pub AnswersLines : ℕ → List ℕ → List Event → Result Report Stop → Type 0
+AnswersLines limit w events outcome = AnswersIn Lines limit w events outcome
 
 -- the bytes decided the result: no read and no allocation failed, and the reads sufficed
 abbrev pub IsDecidedByBytes : Result Report Stop → Type 0

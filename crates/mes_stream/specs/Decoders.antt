@@ -1,11 +1,13 @@
 -- The state of a decoder of a chunked stream, and what it may buffer.
-use Rattle.std.specs.Prelude.{◌≡◌, ℕ, ◌≤◌, List, Option, None, Some, Result, Ok, Err}
+use Rattle.std.specs.Prelude.{◌≡◌, ℕ, ◌≤◌, ◌⊎◌, List, [], ◌∷◌, ◌++◌, Option, None, Some, Result, Ok, Err}
 use Rattle.mes_frame.specs.ChunkFront.{IsOpen}
 use Rattle.mes_frame.specs.Record.{Begun}
+use Rattle.mes_stream.specs.JsonLines.{LinesThen}
+use Rattle.mes_stream.specs.LineRecord.{LineBegun}
 use Rattle.mes_stream.specs.Stream.{Following}
 use Rattle.mes_stream.specs.StreamReaders.{StreamRepresents}
 use Rattle.mes_stream.specs.declared.stream_reader.Framing.{Framing}
-use Rattle.mes_stream.specs.declared.stream_reader.Framing.TheVariants.{Plain, Chunked}
+use Rattle.mes_stream.specs.declared.stream_reader.Framing.TheVariants.{Plain, Chunked, Lines}
 use Rattle.mes_stream.specs.declared.fault.Fault.{Fault}
 use Rattle.mes_stream.specs.declared.fault.Fault.TheVariants.{EndsInsideChunks}
 use Rattle.mes_stream.specs.declared.decoder.RecordDecoder.{RecordDecoder}
@@ -58,7 +60,13 @@ HoldsInBody spells max_held limit b values n = Following spells limit (λ x. (r 
 abbrev pub HoldsOf : {E : Type 0} → (List ℕ → E → Type 0) → (List ℕ → ℕ) → ℕ → List ℕ → List E → ℕ → Type 0
 HoldsOf spells max_held limit w values n = (body : List ℕ) × IsOpen w body × HoldsInBody spells max_held limit body values n
 
--- like `HoldsInBody`, for a stream of either framing
+-- like `HoldsInBody`, for the incomplete line, perhaps without a CR at its end
+abbrev pub HoldsInLine : {E : Type 0} → (List ℕ → E → Type 0) → (List ℕ → ℕ) → ℕ → List ℕ → List E → ℕ → Type 0
+HoldsInLine spells max_held limit w values n =
+    LinesThen spells limit (λ x. (r : List ℕ) × LineBegun x limit × ((x ≡ r ++ 13 ∷ []) ⊎ (x ≡ r)) × (n ≤ max_held r)) w values
+
+-- like `HoldsInBody`, for a stream of any framing
 abbrev pub HoldsIn : {E : Type 0} → Framing → (List ℕ → E → Type 0) → (List ℕ → ℕ) → ℕ → List ℕ → List E → ℕ → Type 0
 HoldsIn Plain spells max_held limit w values n = HoldsInBody spells max_held limit w values n
 HoldsIn Chunked spells max_held limit w values n = HoldsOf spells max_held limit w values n
+HoldsIn Lines spells max_held limit w values n = HoldsInLine spells max_held limit w values n

@@ -3,6 +3,7 @@
 use Rattle.std.specs.Prelude.{ℕ, ◌+◌}
 use Rattle.mes_stream.specs.declared.record_body.Body.{Body}
 use Rattle.mes_stream.specs.declared.chunked_body.ChunkedBody.{ChunkedBody}
+use Rattle.mes_stream.specs.declared.line_body.LineBody.{LineBody}
 use Rattle.mes_stream.specs.declared.decoder.RecordDecoder.{RecordDecoder}
 use Rattle.mes_stream.specs.declared.decoder.State.{State}
 use Rattle.mes_stream.specs.declared.decoder.State.TheVariants as state
@@ -21,9 +22,15 @@ held_by_body kept d = let record { records = records; reader = inner; done = don
 abbrev pub held_by_chunked : {R : Type 0} → (R → ℕ) → ChunkedBody R → ℕ
 held_by_chunked kept d = let record { chunks = chunks; body = body } = d in fixed chunks + held_by_body kept body
 
+abbrev pub held_by_lines : {R : Type 0} → (R → ℕ) → LineBody R → ℕ
+held_by_lines kept d =
+    let record { limit = limit; count = count; cr = cr; line_feeds = line_feeds; body = body } = d in
+    fixed limit + fixed count + fixed cr + fixed line_feeds + held_by_body kept body
+
 abbrev pub held_by_stream : {R : Type 0} → (R → ℕ) → StreamReader R → ℕ
 held_by_stream kept (reader.Plain body) = held_by_body kept body
 held_by_stream kept (reader.Chunked chunked) = held_by_chunked kept chunked
+held_by_stream kept (reader.Lines lines) = held_by_lines kept lines
 
 abbrev pub held_by_state : {R : Type 0} → (R → ℕ) → State R → ℕ
 held_by_state kept (state.Going stream) = held_by_stream kept stream

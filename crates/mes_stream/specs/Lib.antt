@@ -2,9 +2,13 @@ pub mod Answers
 pub mod Chunked
 pub mod Decoders
 pub mod Decoding
-pub mod EventData
+pub mod MessageData
 pub mod Framings
 pub mod Held
+pub mod JsonLines
+pub mod LineBodies
+pub mod LineReading
+pub mod LineRecord
 pub mod Lines
 pub mod Pieces
 pub mod PlainReading

@@ -51,5 +51,10 @@ details (BadEntry at_record) = codes "record" ∷ decimal at_record ∷ []
 abbrev pub fault_text : Fault → ℕ → List ℕ
 fault_text f used = codes "fault" ++ spaced (fault_title f ∷ details f ++ codes "after" ∷ decimal used ∷ [])
 
+-- the counts of messages, whose printed name is `word`, and of bytes, like `calls 2 bytes 57`
+abbrev pub counts_text : List ℕ → ℕ → ℕ → List ℕ
+counts_text word messages used = word ++ codes "s" ++ spaced (decimal messages ∷ codes "bytes" ∷ decimal used ∷ [])
+
+-- `counts_text` of events
 abbrev pub count_text : ℕ → ℕ → List ℕ
-count_text events used = codes "events" ++ spaced (decimal events ∷ codes "bytes" ∷ decimal used ∷ [])
+count_text events used = counts_text (codes "event") events used

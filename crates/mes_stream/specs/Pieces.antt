@@ -4,19 +4,19 @@ use Rattle.mes_msg.specs.Events.{Spells}
 use Rattle.mes_msg.specs.Event.{Event}
 use Rattle.mes_stream.specs.Decoders.{DecoderRepresents}
 use Rattle.mes_stream.specs.Decoding.{Says}
-use Rattle.mes_stream.specs.EventData.{HoldsData}
+use Rattle.mes_stream.specs.MessageData.{HoldsData}
 use Rattle.mes_stream.specs.Refusals.{IsEventRefusal}
 use Rattle.mes_stream.specs.declared.decoder.RecordDecoder.{RecordDecoder}
 use Rattle.mes_stream.specs.declared.decoder.StreamEnd.{StreamEnd}
 use Rattle.mes_stream.specs.declared.decoder.StreamEnd.TheVariants.{Closed, Failed}
-use Rattle.mes_stream.specs.declared.event_reader.EventReader.{EventReader}
+use Rattle.mes_stream.specs.declared.message_reader.MessageReader.{MessageReader}
 use Rattle.mes_stream.specs.declared.fault.Fault.{Fault}
 use Rattle.mes_stream.specs.declared.fault.Fault.TheVariants.{NoMemory}
 use Rattle.mes_stream.specs.declared.step.Decoded.{Decoded}
 use Rattle.mes_stream.specs.declared.step.Decoded.TheVariants as out
 
 -- `next` was called with the piece, used `used` bytes and returned `answer`, as its contract states
-pub record IsNext (old new : RecordDecoder EventReader) (piece : List ℕ) (used : ℕ) (answer : Decoded Event Fault) : Type 0 where
+pub record IsNext (old new : RecordDecoder (MessageReader Event)) (piece : List ℕ) (used : ℕ) (answer : Decoded Event Fault) : Type 0 where
   pub says : (limit : ℕ) (w : List ℕ) (events : List Event) → DecoderRepresents HoldsData Spells old limit w events
       → Says (DecoderRepresents HoldsData Spells new limit) Spells IsEventRefusal limit w events piece used answer
   pub more : answer ≡ out.More → used ≡ length piece
@@ -38,19 +38,19 @@ after_call used events rest = decoded (events ++ rest.events) rest.end (used + r
 
 -- The decoder received the pieces in order. Each call had a whole piece, or the bytes of a piece
 -- that the previous call did not use. After the end or an error no more calls were made.
-abbrev pub Decodes : RecordDecoder EventReader → List (List ℕ) → List (ℕ × Decoded Event Fault) → DecodeOutcome → Type 0
+abbrev pub Decodes : RecordDecoder (MessageReader Event) → List (List ℕ) → List (ℕ × Decoded Event Fault) → DecodeOutcome → Type 0
 Decodes d [] [] outcome = outcome ≡ decoded [] None 0
 Decodes d [] (call ∷ calls) outcome = ⊥
 Decodes d (piece ∷ pieces) [] outcome = ⊥
 Decodes d (piece ∷ pieces) ((used, out.More) ∷ calls) outcome =
-    (new : RecordDecoder EventReader) × (rest : DecodeOutcome) × IsNext d new piece used out.More × Decodes new pieces calls rest × (outcome ≡ after_call used [] rest)
+    (new : RecordDecoder (MessageReader Event)) × (rest : DecodeOutcome) × IsNext d new piece used out.More × Decodes new pieces calls rest × (outcome ≡ after_call used [] rest)
 Decodes d (piece ∷ pieces) ((used, out.Event event) ∷ calls) outcome =
-    (new : RecordDecoder EventReader) × (rest : DecodeOutcome) × IsNext d new piece used (out.Event event) × Decodes new (drop used piece ∷ pieces) calls rest
+    (new : RecordDecoder (MessageReader Event)) × (rest : DecodeOutcome) × IsNext d new piece used (out.Event event) × Decodes new (drop used piece ∷ pieces) calls rest
     × (outcome ≡ after_call used (event ∷ []) rest)
 Decodes d (piece ∷ pieces) ((used, out.End) ∷ calls) outcome =
-    (new : RecordDecoder EventReader) × IsNext d new piece used out.End × (outcome ≡ decoded [] (Some Closed) used)
+    (new : RecordDecoder (MessageReader Event)) × IsNext d new piece used out.End × (outcome ≡ decoded [] (Some Closed) used)
 Decodes d (piece ∷ pieces) ((used, out.Fault fault) ∷ calls) outcome =
-    (new : RecordDecoder EventReader) × IsNext d new piece used (out.Fault fault) × (outcome ≡ decoded [] (Some (Failed fault)) used)
+    (new : RecordDecoder (MessageReader Event)) × IsNext d new piece used (out.Fault fault) × (outcome ≡ decoded [] (Some (Failed fault)) used)
 
 -- the concatenated pieces
 abbrev pub joined : List (List ℕ) → List ℕ

@@ -8,7 +8,7 @@ use Rattle.mes_stream.specs.Refusals.{IsEventRefusal}
 use Rattle.mes_stream.specs.declared.record_error.RecordError.{RecordError}
 use Rattle.mes_stream.specs.Reads.{ReadsMade, SomeReadsMade}
 use Rattle.mes_stream.specs.Stream.{saturated}
-use Rattle.mes_stream.specs.Framings.{GoesIn, GoesBefore, EndsIn, EndsRecordIn, WholeIn, InputEnds, StopsWithin}
+use Rattle.mes_stream.specs.Framings.{GoesIn, GoesBefore, EndsIn, EndsRecordIn, WholeIn, InputEnds, EndsInput, StopsWithin}
 use Rattle.mes_stream.specs.Held.{held_by_reading}
 use Rattle.mes_stream.specs.StreamReaders.{StreamRepresents}
 use Rattle.mes_stream.specs.declared.fault.Fault.{Fault}
@@ -60,6 +60,13 @@ EndMeans framing spells ahead limit w values (Ok report) =
 EndMeans framing spells ahead limit w values (Err stop) =
     InputEnds {T = Unit {0}} framing spells limit w values (Err stop.fault) × (stop.used ≡ saturated (ahead.bytes + length w))
 
+-- like `EndMeans`, but the end of JSON Lines ends the last line, like a LF that is not counted
+abbrev pub InputMeans : {E : Type 0} → Framing → (List ℕ → E → Type 0) → (List ℕ → RecordError → Type 0) → Ahead → ℕ → List ℕ → List E → Result Report Stop → Type 0
+InputMeans framing spells breaks ahead limit w values (Ok report) =
+    EndsInput {T = Unit {0}} framing spells breaks ahead.records limit w values (Ok tt) × (report.used ≡ saturated (ahead.bytes + length w)) × (report.rest.items ≡ [])
+InputMeans framing spells breaks ahead limit w values (Err stop) =
+    EndsInput {T = Unit {0}} framing spells breaks ahead.records limit w values (Err stop.fault) × (stop.used ≡ saturated (ahead.bytes + length w))
+
 -- the stream continues after w, but reading stopped with the error `fault`
 abbrev pub BreaksOff : {E : Type 0} → Fault → Framing → (List ℕ → E → Type 0) → Ahead → ℕ → List ℕ → List E → Result Report Stop → Type 0
 BreaksOff fault framing spells ahead limit w values (Ok report) = ⊥
@@ -84,7 +91,7 @@ ByteEnds framing spells breaks limit w values outcome = ByteEndsAfter framing sp
 -- `EndsReadingAs` for a stream with nothing before it
 abbrev pub EndsReading : {E : Type 0} → Framing → (List ℕ → E → Type 0) → (List ℕ → RecordError → Type 0) → ℕ → ℕ → Counts → Counts → Option (List ℕ) → List ℕ → List E → Result Report Stop → Type 0
 EndsReading framing spells breaks limit reads old new last w values outcome =
-    EndsReadingAs (ByteEnds framing spells breaks limit) (EndMeans framing spells nothing_ahead limit) (λ fault. BreaksOff fault framing spells nothing_ahead limit) reads old new last w values outcome
+    EndsReadingAs (ByteEnds framing spells breaks limit) (InputMeans framing spells breaks nothing_ahead limit) (λ fault. BreaksOff fault framing spells nothing_ahead limit) reads old new last w values outcome
 
 -- `EndsReading` for events in plain RecordIO
 abbrev pub EndsPlain : ℕ → ℕ → Counts → Counts → Option (List ℕ) → List ℕ → List Event → Result Report Stop → Type 0
@@ -142,6 +149,16 @@ MeansAfter {E = E} holds spells ahead d Failed answer =
     (framing : Framing) (limit : ℕ) (w : List ℕ) (values : List E) → ReadingRepresentsAfter holds spells ahead d framing limit w values → BreaksOff Read framing spells ahead limit w values answer
 MeansAfter {E = E} holds spells ahead d Spent answer =
     (framing : Framing) (limit : ℕ) (w : List ℕ) (values : List E) → ReadingRepresentsAfter holds spells ahead d framing limit w values → BreaksOff ReadsSpent framing spells ahead limit w values answer
+
+-- the report of the reading, and the values appended to the list `old`, from the way in which the
+-- reads ended
+abbrev pub FinishMeans : {R E : Type 0} → (R → List ℕ → Type 0) → (List ℕ → E → Type 0) → (List ℕ → RecordError → Type 0) → Reading R → ReadsEnd ReadingStop → List E → List E → Result Report Stop → Type 0
+FinishMeans holds spells breaks d (Stopped stop) old now answer = (now ≡ old) × (answer ≡ reported_as d stop)
+FinishMeans {E = E} holds spells breaks d AtEnd old now answer =
+    (ahead : Ahead) (framing : Framing) (limit : ℕ) (w : List ℕ) (values : List E) → ReadingRepresentsAfter holds spells ahead d framing limit w values
+    → (more : List E) × (now ≡ old ++ more) × InputMeans framing spells breaks ahead limit w (values ++ more) answer
+FinishMeans {E = E} holds spells breaks d Failed old now answer = (now ≡ old) × ((ahead : Ahead) → MeansAfter {E = E} holds spells ahead d Failed answer)
+FinishMeans {E = E} holds spells breaks d Spent old now answer = (now ≡ old) × ((ahead : Ahead) → MeansAfter {E = E} holds spells ahead d Spent answer)
 
 abbrev pub Means : {R E : Type 0} → (R → List ℕ → Type 0) → (List ℕ → E → Type 0) → Reading R → ReadsEnd ReadingStop → Result Report Stop → Type 0
 Means holds spells d end answer = MeansAfter holds spells nothing_ahead d end answer

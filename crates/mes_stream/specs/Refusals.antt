@@ -4,7 +4,9 @@ use Rattle.mes_json.specs.Tree.{Tree}
 use Rattle.mes_json.specs.Grammar.{IsText}
 use Rattle.mes_json.specs.Place.{Begins}
 use Rattle.mes_json.specs.declared.limits.TheConstants.{MAX_NESTING}
-use Rattle.mes_msg.specs.Events.{IsRecordFault}
+use Rattle.mes_model_schema.specs.Kinds.{Kind}
+use Rattle.mes_msg.specs.Events.{event}
+use Rattle.mes_msg.specs.Texts.{IsFaultOf}
 use Rattle.mes_msg.specs.RecordFault.{RecordFault}
 use Rattle.mes_msg.specs.RecordFault.TheVariants as message
 use Rattle.mes_stream.specs.declared.record_error.RecordError.{RecordError}
@@ -22,13 +24,17 @@ refusal_of message.NoMemory = refusal.NoMemory
 abbrev pub IsJson : List ℕ → Type 0
 IsJson r = (t : Tree) × IsText MAX_NESTING r t
 
--- The data r are not an event, for the given reason. An allocation can fail only at a byte with
--- which some JSON text goes on.
+-- The data r are not a message of the kind, for the given reason. An allocation can fail only at a
+-- byte with which some JSON text goes on.
+abbrev pub IsMessageRefusal : {M : Type 0} → Kind M → List ℕ → RecordError → Type 0
+IsMessageRefusal kind r (refusal.Text f) = IsFaultOf kind r (message.Text f)
+IsMessageRefusal kind r (refusal.Field f) = IsFaultOf kind r (message.Field f)
+IsMessageRefusal kind r refusal.BadEntry = ⊥
+IsMessageRefusal kind r refusal.NoMemory = Begins MAX_NESTING r
+
+-- the data r are not an event, for the given reason
 abbrev pub IsEventRefusal : List ℕ → RecordError → Type 0
-IsEventRefusal r (refusal.Text f) = IsRecordFault r (message.Text f)
-IsEventRefusal r (refusal.Field f) = IsRecordFault r (message.Field f)
-IsEventRefusal r refusal.BadEntry = ⊥
-IsEventRefusal r refusal.NoMemory = Begins MAX_NESTING r
+IsEventRefusal r why = IsMessageRefusal event r why
 
 -- the error of a stream whose record number n has no value
 abbrev pub fault_at_record : ℕ → RecordError → Fault

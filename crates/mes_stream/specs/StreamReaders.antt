@@ -3,12 +3,13 @@ use Rattle.std.specs.Prelude.{◌≡◌, ℕ, ◌+◌, ◌<◌, List, ◌++◌, 
 use Rattle.mes_frame.specs.RecordState.{limit_of}
 use Rattle.mes_stream.specs.Taking.{BodyRepresents}
 use Rattle.mes_stream.specs.Decoding.{ChunkedRepresents}
+use Rattle.mes_stream.specs.LineBodies.{LineRepresents}
 use Rattle.mes_stream.specs.Framings.{EndsIn, StopsWithin}
 use Rattle.mes_stream.specs.declared.record_body.Body.{Body}
 use Rattle.mes_stream.specs.declared.fault.Fault.{Fault}
 use Rattle.mes_stream.specs.declared.record_error.RecordError.{RecordError}
 use Rattle.mes_stream.specs.declared.stream_reader.Framing.{Framing}
-use Rattle.mes_stream.specs.declared.stream_reader.Framing.TheVariants.{Plain, Chunked}
+use Rattle.mes_stream.specs.declared.stream_reader.Framing.TheVariants.{Plain, Chunked, Lines}
 use Rattle.mes_stream.specs.declared.stream_reader.StreamReader.{StreamReader}
 use Rattle.mes_stream.specs.declared.stream_reader.StreamReader.TheVariants as reader
 use Rattle.mes_stream.specs.declared.step.Decoded.{Decoded}
@@ -18,10 +19,12 @@ use Rattle.mes_stream.specs.declared.step.Decoded.TheVariants as out
 abbrev pub body_of : {R : Type 0} → StreamReader R → Body R
 body_of (reader.Plain body) = body
 body_of (reader.Chunked chunked) = chunked.body
+body_of (reader.Lines lines) = lines.body
 
 abbrev pub with_body : {R : Type 0} → StreamReader R → Body R → StreamReader R
 with_body (reader.Plain body) after = reader.Plain after
 with_body (reader.Chunked chunked) after = reader.Chunked (record { chunks = chunked.chunks; body = after })
+with_body (reader.Lines lines) after = reader.Lines (record { limit = lines.limit; count = lines.count; cr = lines.cr; line_feeds = lines.line_feeds; body = after })
 
 -- The reader decodes the given framing, and has consumed w, a prefix of a stream with the values.
 -- This does not hold after the end or an error.
@@ -29,6 +32,7 @@ abbrev pub StreamRepresents : {R E : Type 0} → (R → List ℕ → Type 0) →
 StreamRepresents holds spells ahead (reader.Plain body) framing limit w values = (framing ≡ Plain) × BodyRepresents holds spells ahead body w values × (limit_of body.records ≡ limit)
 StreamRepresents holds spells ahead (reader.Chunked chunked) framing limit w values =
     (framing ≡ Chunked) × ChunkedRepresents holds spells ahead chunked w values × (limit_of chunked.body.records ≡ limit)
+StreamRepresents holds spells ahead (reader.Lines lines) framing limit w values = (framing ≡ Lines) × LineRepresents holds spells ahead lines w values × (lines.limit ≡ limit)
 
 -- The result of `feed` for a piece after w. The values of the records that ended in the piece were
 -- appended to the list `old`, so that no result is an event.

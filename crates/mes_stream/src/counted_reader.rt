@@ -1,13 +1,15 @@
 //! Decodes a stream read by read, and counts the bytes used. `read_loop.rt` makes the reads.
 
-ghost use Rattle.std.specs.Prelude.{◌≡◌, ◌+◌, ◌<◌, ◌≤◌, ℕ, List, [], length};
+ghost use Rattle.std.specs.Prelude.{◌≡◌, ◌+◌, ◌<◌, ◌≤◌, ℕ, List, [], ◌++◌, length, IfErr};
 ghost use Rattle.mes_stream.specs.Decoders.{HoldsIn};
 ghost use Rattle.mes_stream.specs.Held.{held_by_reading};
-ghost use Rattle.mes_stream.specs.Reading.{Ahead, ReadingRepresents, ReadingRepresentsAfter, ReadingTakesAfter, ReadingTakesRecord, EndsWithin, MeansAfter, Collects, GathersLast};
+ghost use Rattle.mes_stream.specs.LineRecord.{line_feeds_in};
+ghost use Rattle.mes_stream.specs.Reading.{Ahead, FinishMeans, InputMeans, ReadingRepresents, ReadingRepresentsAfter, ReadingTakesAfter, ReadingTakesRecord, EndsWithin, MeansAfter, Collects, GathersLast};
 ghost use Rattle.mes_stream.specs.RecordValues.{IsRefused};
 ghost use Rattle.mes_stream.specs.Stream.{saturated};
 ghost use Rattle.mes_stream.specs.StreamReaders.{KeepsNoneAfterStop};
 ghost use Rattle.mes_stream.specs.declared.stream_reader.Framing.{Framing as FramingValue};
+ghost use Rattle.mes_stream.specs.declared.stream_reader.Framing.TheVariants.{Lines};
 
 use crate::fault::{Fault, Report, Stop};
 use crate::limits::{MAX_READ, MAX_REST};
@@ -20,7 +22,7 @@ use arrayvec::ArrayVec;
 use mes_frame::Limit;
 use std::mem;
 
-/// Decodes a stream of either framing, and counts the bytes used.
+/// Decodes a stream of any framing, and counts the bytes used.
 #[derive(Drop)]
 pub struct Reading<R> {
     stream: StreamReader<R>,
@@ -97,6 +99,16 @@ impl<R: RecordReader> Reading<R> {
         self.stream.held()
     }
 
+    /// Returns the number of line feeds of JSON Lines so far, or 2^64 - 1 if there are more. The
+    /// result is unspecified for other framings, and after an error.
+    pub fn line_feeds(&self) -> u64
+        ensures { (ahead : Ahead) (limit : ℕ) (w : List ℕ) (values : List R.Value)
+            → ReadingRepresentsAfter R.holds R.spells ahead self.now Lines limit w values
+            → result ≡ saturated (line_feeds_in w) }
+    {
+        self.stream.line_feeds()
+    }
+
     /// Decodes one read up to the end of a record. Returns `Ok(None)` if no record ends in it.
     /// Returns `Err` once the stream has ended or has an error; no bytes may be given after that.
     pub fn next(&mut self, piece: &[u8]) -> Result<Option<EndedRecord<R::Value>>, ReadingStop>
@@ -136,6 +148,11 @@ impl<R: RecordReader> Reading<R> {
             limit w before
             → ReadingTakesAfter R.holds R.spells (IsRefused R.spells R.breaks) ahead self.new
             framing limit w before piece.now values.old.items values.new.items result }
+        // The byte that ended the stream, or the byte of the error, is in the piece.
+        ensures within { (ahead : Ahead) (framing : FramingValue) (limit : ℕ) (w : List ℕ)
+            (before : List R.Value) → ReadingRepresentsAfter R.holds R.spells ahead self.old framing
+            limit w before
+            → IfErr result (λ stop. saturated (ahead.bytes + length w + 1) ≤ self.new.used) }
         // After the end or an error: nothing is buffered.
         ensures kept { KeepsNoneAfterStop (held_by_reading R.kept self.new) result }
     {
@@ -176,6 +193,47 @@ impl<R: RecordReader> Reading<R> {
             },
             ReadsEnd::Failed => Err(stop_at(Fault::Read, used)),
             ReadsEnd::Spent => Err(stop_at(Fault::ReadsSpent, used)),
+        }
+    }
+
+    /// Like [`outcome`](Self::outcome), but if the input ended, the end of JSON Lines ends the last
+    /// line, like a LF that is not counted. Appends the value of that line.
+    pub fn finish(
+        &mut self,
+        end: ReadsEnd<ReadingStop>,
+        values: &mut Vec<R::Value>,
+    ) -> Result<Report, Stop>
+        ensures means { FinishMeans R.holds R.spells (IsRefused R.spells R.breaks) self.old end
+            values.old.items values.new.items result }
+        ensures used { self.new.used ≡ self.old.used }
+        ensures kept { held_by_reading R.kept self.new ≡ 0 }
+    {
+        match end {
+            ReadsEnd::AtEnd => self.end_input(values),
+            end => self.outcome(end),
+        }
+    }
+
+    // Reports the end of the input, and frees the buffers. Appends the value of the last line.
+    fn end_input(&mut self, values: &mut Vec<R::Value>) -> Result<Report, Stop>
+        ensures means { (ahead : Ahead) (framing : FramingValue) (limit : ℕ) (w : List ℕ)
+            (before : List R.Value) → ReadingRepresentsAfter R.holds R.spells ahead self.old framing
+            limit w before
+            → (more : List R.Value) × (values.new.items ≡ values.old.items ++ more)
+            × InputMeans framing R.spells (IsRefused R.spells R.breaks) ahead limit w
+            (before ++ more) result }
+        ensures used { self.new.used ≡ self.old.used }
+        ensures kept { held_by_reading R.kept self.new ≡ 0 }
+    {
+        let used = self.used;
+        let ended = self.stream.end_input(values);
+        self.stream.release();
+        match ended {
+            Ok(()) => Ok(Report {
+                used,
+                rest: ArrayVec::new(),
+            }),
+            Err(fault) => Err(stop_at(fault, used)),
         }
     }
 

@@ -6,11 +6,11 @@ ghost use Rattle.mes_stream.specs.Chunked.{Live};
 ghost use Rattle.mes_stream.specs.Decoding.{Says, LiveBefore};
 ghost use Rattle.mes_stream.specs.Decoders.{DecoderRepresents, end_of, answer_of, finish_of, EndsBy, HoldsOf};
 ghost use Rattle.mes_stream.specs.Held.{held_by_decoder};
-ghost use Rattle.mes_stream.specs.EventData.{HoldsData};
+ghost use Rattle.mes_stream.specs.MessageData.{HoldsData};
 ghost use Rattle.mes_msg.specs.Events.{Spells};
 
-use crate::event_reader::EventReader;
 use crate::fault::Fault;
+use crate::message_reader::EventReader;
 use crate::record_error::RecordError;
 use crate::record_reader::RecordReader;
 use crate::step::{Decoded, Step};

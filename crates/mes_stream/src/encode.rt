@@ -1,76 +1,85 @@
-//! Encodes events as records of plain RecordIO. `send.rt` writes them.
+//! Encodes events, or calls, as records of plain RecordIO. `send.rt` writes them.
 
 ghost use Rattle.std.specs.Prelude.{◌≡◌, ◌++◌, map, OnOk, IfOk, IfErr};
 ghost use Rattle.mes_frame.specs.Frames.{record_bytes};
 ghost use Rattle.mes_frame.specs.Record.{IsRecord};
-ghost use Rattle.mes_msg.specs.Canon.{canonical_text, IsGood, IsEncodeFault};
-ghost use Rattle.mes_msg.specs.Events.{Spells};
+ghost use Rattle.mes_msg.specs.Texts.{canonical_of, Fits, IsRefusalOf, IsTextOf};
 ghost use Rattle.mes_stream.specs.Sending.{IsPlainOf, IsUnsent, fault_at};
 
 use itoa::Buffer;
 use mes_frame::Limit;
 use mes_json::NoMemory;
-use mes_msg::{EncodeFault, EncodeFaultKind, Event, SendFault};
+use mes_model_schema::Part;
+use mes_msg::{EncodeFault, EncodeFaultKind, SendFault};
 use mes_msg_record::canonical_into;
 use std::alloc::Global;
 
-/// Encodes events as consecutive records of their canonical JSON. Errors: the first event that
+/// Encodes messages as consecutive records of their canonical JSON. Errors: the first message that
 /// nests too deeply, or whose JSON has more than `limit` bytes; or a failed allocation.
-pub fn encode_events(alloc: Global, events: &[Event], limit: Limit) -> Result<Vec<u8>, SendFault>
-    ensures ok { IfOk result (λ body. IsPlainOf limit events.now body.items) }
-    ensures err { IfErr result (IsUnsent limit events.now) }
+pub fn encode_all<M: Part>(
+    alloc: Global,
+    messages: &[M],
+    limit: Limit,
+) -> Result<Vec<u8>, SendFault>
+    ensures ok { IfOk result (λ body. IsPlainOf M.kind limit messages.now body.items) }
+    ensures err { IfErr result (IsUnsent M.kind limit messages.now) }
 {
-    match event_refs(alloc, events) {
+    match message_refs(alloc, messages) {
         Ok(refs) => encode_each(alloc, refs.as_slice(), limit),
         Err(_) => Err(SendFault::NoMemory),
     }
 }
 
-/// Returns a reference to each event.
-pub fn event_refs(alloc: Global, events: &[Event]) -> Result<Vec<&Event>, NoMemory>
-    ensures { IfOk result (λ refs. map (λ event. event.now) refs.items ≡ events.now) }
+/// Returns a reference to each message.
+pub fn message_refs<M>(alloc: Global, messages: &[M]) -> Result<Vec<&M>, NoMemory>
+    ensures { IfOk result (λ refs. map (λ message. message.now) refs.items ≡ messages.now) }
 {
-    let mut refs = Vec::with_capacity(alloc, events.len())?;
-    for event in events {
-        refs.push(event)?;
+    let mut refs = Vec::with_capacity(alloc, messages.len())?;
+    for message in messages {
+        refs.push(message)?;
     }
     Ok(refs)
 }
 
-/// Like [`encode_events`], for events that are not adjacent in memory.
-pub fn encode_each(alloc: Global, events: &[&Event], limit: Limit) -> Result<Vec<u8>, SendFault>
-    // On success: the records of the events, in order.
-    ensures ok { IfOk result (λ body. IsPlainOf limit (map (λ event. event.now) events.now)
-        body.items) }
-    ensures err { IfErr result (IsUnsent limit (map (λ event. event.now) events.now)) }
+/// Like [`encode_all`], for messages that are not adjacent in memory.
+pub fn encode_each<M: Part>(
+    alloc: Global,
+    messages: &[&M],
+    limit: Limit,
+) -> Result<Vec<u8>, SendFault>
+    // On success: the records of the messages, in order.
+    ensures ok { IfOk result (λ body. IsPlainOf M.kind limit (map (λ message. message.now)
+        messages.now) body.items) }
+    ensures err { IfErr result (IsUnsent M.kind limit (map (λ message. message.now)
+        messages.now)) }
 {
     let mut body = Vec::new(alloc);
     let mut text = Vec::new(alloc);
-    for (index, event) in events.iter().enumerate() {
-        if let Err(fault) = put_event(alloc, event, limit, &mut text, &mut body) {
+    for (index, message) in messages.iter().enumerate() {
+        if let Err(fault) = put_message::<M>(alloc, message, limit, &mut text, &mut body) {
             return Err(refused_at(index, fault));
         }
     }
     Ok(body)
 }
 
-/// Appends the record of an event's canonical JSON. `text` is a buffer that each event reuses.
-fn put_event(
+/// Appends the record of a message's canonical JSON. `text` is a buffer that each message reuses.
+fn put_message<M: Part>(
     alloc: Global,
-    event: &Event,
+    message: &M,
     limit: Limit,
     text: &mut Vec<u8>,
     body: &mut Vec<u8>,
 ) -> Result<(), EncodeFault>
     ensures ok { OnOk result (body.new.items
-        ≡ body.old.items ++ record_bytes (canonical_text event.now)) }
-    ensures good { OnOk result (IsGood event.now limit) }
-    ensures read { OnOk result (IsRecord (record_bytes (canonical_text event.now))
-        (canonical_text event.now) limit) }
-    ensures spells { OnOk result (Spells (canonical_text event.now) event.now) }
-    ensures err { IfErr result (IsEncodeFault event.now limit) }
+        ≡ body.old.items ++ record_bytes (canonical_of M.kind message.now)) }
+    ensures good { OnOk result (Fits M.kind message.now limit) }
+    ensures read { OnOk result (IsRecord (record_bytes (canonical_of M.kind message.now))
+        (canonical_of M.kind message.now) limit) }
+    ensures spells { OnOk result (IsTextOf M.kind (canonical_of M.kind message.now) message.now) }
+    ensures err { IfErr result (IsRefusalOf M.kind message.now limit) }
 {
-    canonical_into(event, alloc, limit, text)?;
+    canonical_into(message, alloc, limit, text)?;
     put_record(text.as_slice(), body)?;
     Ok(())
 }
@@ -85,7 +94,7 @@ fn put_record(payload: &[u8], body: &mut Vec<u8>) -> Result<(), NoMemory>
     Ok(())
 }
 
-/// Returns the error for the event at this index.
+/// Returns the error for the message at this index.
 fn refused_at(index: usize, fault: EncodeFault) -> SendFault
     ensures { result ≡ fault_at index fault }
 {

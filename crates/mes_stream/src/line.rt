@@ -4,7 +4,7 @@ ghost use Rattle.std.specs.Prelude.{◌≡◌, ◌+◌, ◌≤◌, [], ◌∷◌
 ghost use Rattle.arrayvec.specs.ArrayString.{array_string_len};
 ghost use Rattle.mes_model_schema.specs.Paths.{path_text};
 ghost use Rattle.mes_msg.specs.ShowLines.{spaced};
-ghost use Rattle.mes_stream.specs.Lines.{fault_text, count_text, details, text_fault_kind_name};
+ghost use Rattle.mes_stream.specs.Lines.{fault_text, count_text, counts_text, details, text_fault_kind_name};
 
 use crate::fault::Fault;
 use crate::limits::{MAX_COUNT_LINE, MAX_FAULT_LINE};
@@ -29,9 +29,18 @@ pub fn fault_line(fault: &Fault, used: u64, line: &mut ArrayString<MAX_FAULT_LIN
 pub fn count_line(events: u64, used: u64, line: &mut ArrayString<MAX_COUNT_LINE>)
     ensures { line.new.bytes ≡ count_text events used }
 {
+    counts_line("event", events, used, line);
+}
+
+/// Like [`count_line`], for messages whose printed name is `word`, for example `calls 2 bytes 57`.
+pub fn counts_line(word: &str, messages: u64, used: u64, line: &mut ArrayString<MAX_COUNT_LINE>)
+    requires { length word.now ≤ 5 }
+    ensures { line.new.bytes ≡ counts_text word.now messages used }
+{
     line.clear();
-    line.push_str("events");
-    push_number(line, events);
+    line.push_str(word);
+    line.push_str("s");
+    push_number(line, messages);
     push_word(line, "bytes");
     push_number(line, used);
 }

@@ -149,6 +149,23 @@ impl<R: RecordReader> Body<R> {
         self.reader.push_run(run)
     }
 
+    /// Consumes the bytes `run` of a line.
+    pub(crate) fn push(&mut self, run: &[u8]) -> Result<(), NoMemoryAt>
+        ensures ok { OnOk result ((r : List ℕ) → R.holds self.old.reader r
+            → R.holds self.new.reader (r ++ run.now)) }
+        // On an error: an allocation failed at the byte after `taken` bytes of `run`.
+        ensures err { IfErr result (λ refused. refused.taken < length run.now) }
+        ensures begins { (r : List ℕ) → R.holds self.old.reader r
+            → IfErr result (λ refused. R.breaks (r
+            ++ take (refused.taken + 1) run.now) RecordError.NoMemory) }
+        ensures same { (self.new.records ≡ self.old.records) × (self.new.done ≡ self.old.done) }
+    {
+        if run.is_empty() {
+            return Ok(());
+        }
+        self.reader.push_run(run)
+    }
+
     /// Returns the value of the record that ended, or the reason for which it has none.
     pub(crate) fn end_record(&mut self) -> Result<R::Value, RecordError>
         ensures ends { (r : List ℕ) → R.holds self.old.reader r → length r < 2 ^ 64
@@ -177,6 +194,15 @@ impl<R: RecordReader> Body<R> {
         ensures most { (ahead : ℕ) (b : List ℕ) (values : List R.Value)
             → BodyRepresents R.holds R.spells ahead self.now b values
             → HoldsInBody R.spells R.max_held (limit_of self.now.records) b values result }
+    {
+        self.reader.held()
+    }
+
+    /// Returns the number of buffered bytes of the incomplete line.
+    pub(crate) fn held_of_line(&self) -> u64
+        ensures count { result ≡ held_by_body R.kept self.now }
+        // The bound: what `reader` may buffer of the incomplete line.
+        ensures most { (r : List ℕ) → R.holds self.now.reader r → result ≤ R.max_held r }
     {
         self.reader.held()
     }

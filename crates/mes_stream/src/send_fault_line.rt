@@ -1,7 +1,7 @@
 //! Formats the error of a failed send.
 
-ghost use Rattle.std.specs.Prelude.{◌≡◌};
-ghost use Rattle.mes_stream.specs.SendLines.{send_text};
+ghost use Rattle.std.specs.Prelude.{◌≡◌, ◌≤◌, length};
+ghost use Rattle.mes_stream.specs.SendLines.{send_text, unsent_text};
 
 use crate::fault::Fault;
 use crate::limits::MAX_FAULT_LINE;
@@ -14,10 +14,19 @@ use mes_msg::SendFault;
 pub fn send_line(fault: &SendFault, line: &mut ArrayString<MAX_FAULT_LINE>)
     ensures { line.new.bytes ≡ send_text fault.now }
 {
+    unsent_line("event", fault, line);
+}
+
+/// Like [`send_line`], for messages whose printed name is `word`.
+pub fn unsent_line(word: &str, fault: &SendFault, line: &mut ArrayString<MAX_FAULT_LINE>)
+    requires { length word.now ≤ 5 }
+    ensures { line.new.bytes ≡ unsent_text word.now fault.now }
+{
     line.clear();
     match fault {
         SendFault::Encode { index, why } => {
-            line.push_str("encode failed event");
+            line.push_str("encode failed ");
+            line.push_str(word);
             push_number(line, (*index as u64).saturating_add(1));
             push_word(line, why.name());
         }

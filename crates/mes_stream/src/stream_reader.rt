@@ -1,18 +1,21 @@
-//! Decodes a stream of either framing in pieces of any size.
+//! Decodes a stream of any framing in pieces of any size.
 
-ghost use Rattle.std.specs.Prelude.{◌≡◌, ◌≢◌, ℕ, ◌^◌, ◌<◌, ◌≤◌, List, [], length};
+ghost use Rattle.std.specs.Prelude.{◌≡◌, ◌≢◌, ℕ, ◌^◌, ◌<◌, ◌≤◌, List, [], ◌++◌, length};
 ghost use Rattle.mes_stream.specs.Decoders.{HoldsIn};
-ghost use Rattle.mes_stream.specs.Framings.{InputEnds, SaysIn, GoesBefore};
+ghost use Rattle.mes_stream.specs.Framings.{EndsInput, InputEnds, SaysIn, GoesBefore};
 ghost use Rattle.mes_stream.specs.Held.{held_by_stream};
+ghost use Rattle.mes_stream.specs.LineRecord.{line_feeds_in};
 ghost use Rattle.mes_stream.specs.RecordValues.{IsRefused};
 ghost use Rattle.mes_stream.specs.Refusals.{fault_at_record};
 ghost use Rattle.mes_stream.specs.Stream.{saturated};
 ghost use Rattle.mes_stream.specs.StreamReaders.{StreamRepresents, StreamFeeds, KeepsNoneAfterAnswer, body_of, with_body};
 ghost use Rattle.mes_stream.specs.Taking.{Ends, EndsInto, Reports};
 ghost use Rattle.mes_stream.specs.declared.stream_reader.Framing.{Framing as FramingValue};
+ghost use Rattle.mes_stream.specs.declared.stream_reader.Framing.TheVariants.{Lines};
 
 use crate::chunked_body::ChunkedBody;
 use crate::fault::Fault;
+use crate::line_body::LineBody;
 use crate::packed_fault::PackedFault;
 use crate::record_body::Body;
 use crate::record_error::RecordError;
@@ -28,9 +31,12 @@ pub enum Framing {
     Plain,
     /// Records in a chunked body, whose last chunk ends the stream.
     Chunked,
+    /// JSON Lines (<https://jsonlines.org>): each line is a record, without its LF, and without a
+    /// CR directly before the LF. A line with an empty record is passed over.
+    Lines,
 }
 
-/// Decodes a stream of either framing in pieces of any size. After the end or an error no more
+/// Decodes a stream of any framing in pieces of any size. After the end or an error no more
 /// pieces may be given.
 #[derive(Drop)]
 pub enum StreamReader<R> {
@@ -38,6 +44,8 @@ pub enum StreamReader<R> {
     Plain(Body<R>),
     /// Decodes a chunked stream.
     Chunked(ChunkedBody<R>),
+    /// Decodes JSON Lines.
+    Lines(LineBody<R>),
 }
 
 impl<R: RecordReader> StreamReader<R> {
@@ -61,6 +69,7 @@ impl<R: RecordReader> StreamReader<R> {
         match framing {
             Framing::Plain => StreamReader::Plain(body),
             Framing::Chunked => StreamReader::Chunked(ChunkedBody::new(body)),
+            Framing::Lines => StreamReader::Lines(LineBody::new(body, limit)),
         }
     }
 
@@ -147,7 +156,8 @@ impl<R: RecordReader> StreamReader<R> {
     }
 
     /// Reports the end of the input. Plain RecordIO: `Ok` between records, F10 inside one. A
-    /// chunked stream that has not ended: F6.
+    /// chunked stream that has not ended: F6. JSON Lines: like plain RecordIO, so that a last line
+    /// without LF is F10; [`end_input`](Self::end_input) decodes that line.
     pub fn finish(&self) -> Result<(), Fault>
         // The result of the end of the input, if `w` are the bytes so far.
         ensures { (ahead : ℕ) (framing : FramingValue) (limit : ℕ) (w : List ℕ)
@@ -164,6 +174,33 @@ impl<R: RecordReader> StreamReader<R> {
                 }
             }
             StreamReader::Chunked(_) => Err(Fault::EndsInsideChunks),
+            StreamReader::Lines(lines) => {
+                if lines.between() {
+                    Ok(())
+                } else {
+                    Err(Fault::EndsInsideRecord)
+                }
+            }
+        }
+    }
+
+    /// Like [`finish`](Self::finish), but the end of JSON Lines ends the last line, like a LF.
+    /// Appends the value of that line. No more pieces may be given after that.
+    pub fn end_input(&mut self, values: &mut Vec<R::Value>) -> Result<(), Fault>
+        // The result of the end of the input, if `w` are the bytes so far.
+        ensures { (ahead : ℕ) (framing : FramingValue) (limit : ℕ) (w : List ℕ)
+            (before : List R.Value) → StreamRepresents R.holds R.spells ahead self.old framing limit
+            w before
+            → (more : List R.Value) × (values.new.items ≡ values.old.items ++ more)
+            × EndsInput framing R.spells (IsRefused R.spells R.breaks) ahead limit w
+            (before ++ more) result }
+    {
+        match self {
+            StreamReader::Plain(_) | StreamReader::Chunked(_) => self.finish(),
+            StreamReader::Lines(_) => match self.feed(b"\n", values).out {
+                Decoded::More | Decoded::Event(_) | Decoded::End => Ok(()),
+                Decoded::Fault(fault) => Err(fault.into_fault()),
+            },
         }
     }
 
@@ -179,6 +216,20 @@ impl<R: RecordReader> StreamReader<R> {
         match self {
             StreamReader::Plain(body) => body.held(),
             StreamReader::Chunked(chunked) => chunked.body.held(),
+            StreamReader::Lines(lines) => lines.body.held_of_line(),
+        }
+    }
+
+    /// Returns the number of line feeds of JSON Lines so far, or 2^64 - 1 if there are more. The
+    /// result is unspecified for other framings, and after an error.
+    pub(crate) fn line_feeds(&self) -> u64
+        ensures { (ahead limit : ℕ) (w : List ℕ) (values : List R.Value)
+            → StreamRepresents R.holds R.spells ahead self.now Lines limit w values
+            → result ≡ saturated (line_feeds_in w) }
+    {
+        match self {
+            StreamReader::Plain(_) | StreamReader::Chunked(_) => 0,
+            StreamReader::Lines(lines) => lines.line_feeds(),
         }
     }
 
@@ -201,6 +252,7 @@ impl<R: RecordReader> StreamReader<R> {
         match self {
             StreamReader::Plain(body) => body.consume(piece),
             StreamReader::Chunked(chunked) => chunked.consume(piece),
+            StreamReader::Lines(lines) => lines.consume(piece),
         }
     }
 
@@ -261,6 +313,7 @@ impl<R: RecordReader> StreamReader<R> {
         match self {
             StreamReader::Plain(body) => body.end_record(),
             StreamReader::Chunked(chunked) => chunked.body.end_record(),
+            StreamReader::Lines(lines) => lines.body.end_record(),
         }
     }
 
@@ -275,6 +328,7 @@ impl<R: RecordReader> StreamReader<R> {
         match self {
             StreamReader::Plain(body) => body.end_record_into(values),
             StreamReader::Chunked(chunked) => chunked.body.end_record_into(values),
+            StreamReader::Lines(lines) => lines.body.end_record_into(values),
         }
     }
 
@@ -286,6 +340,7 @@ impl<R: RecordReader> StreamReader<R> {
         let fault = match self {
             StreamReader::Plain(body) => body.refused(why),
             StreamReader::Chunked(chunked) => chunked.body.refused(why),
+            StreamReader::Lines(lines) => lines.body.refused(why),
         };
         self.release();
         fault
@@ -298,6 +353,7 @@ impl<R: RecordReader> StreamReader<R> {
         match self {
             StreamReader::Plain(body) => body.release(),
             StreamReader::Chunked(chunked) => chunked.body.release(),
+            StreamReader::Lines(lines) => lines.body.release(),
         }
     }
 }

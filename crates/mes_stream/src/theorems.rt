@@ -7,22 +7,23 @@ ghost use Rattle.mes_stream.specs.Refusals.{IsEventRefusal};
 ghost use Rattle.mes_msg.specs.Event.{Event as EventValue};
 ghost use Rattle.mes_frame.specs.Chunk.{IsChunked};
 ghost use Rattle.mes_frame.specs.ChunkFront.{IsOpen};
-ghost use Rattle.mes_stream.specs.Answers.{AnswersStream, AnswersPlain, IsDecidedByBytes, IsSameOutcome, EndsAlike};
+ghost use Rattle.mes_stream.specs.Answers.{AnswersLines, AnswersStream, AnswersPlain, IsDecidedByBytes, IsSameOutcome, EndsAlike};
 ghost use Rattle.mes_stream.specs.Chunked.{IsStream, Live};
 ghost use Rattle.mes_stream.specs.Decoders.{DecoderRepresents};
-ghost use Rattle.mes_stream.specs.EventData.{HoldsData};
+ghost use Rattle.mes_stream.specs.MessageData.{HoldsData};
 ghost use Rattle.mes_stream.specs.Pieces.{DecodeOutcome, Decodes, HadMemory, joined};
 ghost use Rattle.mes_stream.specs.declared.decoder.RecordDecoder.{RecordDecoder as DecoderValue};
-ghost use Rattle.mes_stream.specs.declared.event_reader.EventReader.{EventReader as ReaderValue};
+ghost use Rattle.mes_stream.specs.declared.message_reader.MessageReader.{MessageReader as ReaderValue};
 ghost use Rattle.mes_stream.specs.declared.step.Decoded.{Decoded as Answer};
 ghost use Rattle.mes_stream.specs.declared.fault.Fault.{Fault};
 ghost use Rattle.mes_stream.specs.declared.fault.Report.{Report};
 ghost use Rattle.mes_stream.specs.declared.fault.Stop.{Stop};
+ghost use Rattle.mes_stream.specs.LineReading.{ReadsLines};
 ghost use Rattle.mes_stream.specs.PlainReading.{IsDecided, IsExact, PlainReading, ReadsPlain};
 ghost use Rattle.mes_stream.specs.StreamReading.{StreamReading, ReadsStream, IsAlike};
 
-use crate::event_reader::EventReader;
 use crate::limits::{MAX_COUNT_LINE, MAX_FAULT_LINE, MAX_READ, MAX_REST};
+use crate::message_reader::EventReader;
 use crate::record_reader::RecordReader;
 use mes_msg::{Event, message_reading_is_unique};
 
@@ -37,6 +38,19 @@ pub fn plain_reading_is_unique<R: RecordReader>()
         → (ahead limit : ℕ) (w : List ℕ) (reading other : PlainReading R.Value)
         → ReadsPlain R.spells R.breaks ahead limit w reading
         → ReadsPlain R.spells R.breaks ahead limit w other → reading ≡ other }
+{}
+
+/// Proves that any bytes have exactly one reading as JSON Lines: the bytes are lines, and perhaps a
+/// part of one more line, or an error is detected at one of the bytes.
+pub fn line_reading_is_unique<R: RecordReader>()
+    // At least one reading, if every record has a value or an error.
+    ensures some { IsDecided R.spells R.breaks → (ahead limit : ℕ) (w : List ℕ)
+        → (reading : PlainReading R.Value) × ReadsLines R.spells R.breaks ahead limit w reading }
+    // At most one reading, if no record has two values or errors.
+    ensures one { IsExact R.spells R.breaks
+        → (ahead limit : ℕ) (w : List ℕ) (reading other : PlainReading R.Value)
+        → ReadsLines R.spells R.breaks ahead limit w reading
+        → ReadsLines R.spells R.breaks ahead limit w other → reading ≡ other }
 {}
 
 /// Proves that any bytes have exactly one reading as a chunked stream: the bytes are a prefix of a
@@ -82,7 +96,8 @@ pub fn stream_limits()
     ensures lines { (MAX_FAULT_LINE ≡ 640) × (MAX_COUNT_LINE ≡ 64) }
 {}
 
-/// Proves that any bytes have exactly one reading as a stream of events, plain or chunked.
+/// Proves that any bytes have exactly one reading as a stream of events: as plain RecordIO, as JSON
+/// Lines, and as a chunked stream.
 pub fn event_reading_is_unique()
     // Plain RecordIO: at least one reading.
     ensures some_plain { (limit : ℕ) (w : List ℕ)
@@ -91,6 +106,13 @@ pub fn event_reading_is_unique()
     ensures one_plain { (limit : ℕ) (w : List ℕ) (reading other : PlainReading EventValue)
         → ReadsPlain Spells IsEventRefusal 0 limit w reading
         → ReadsPlain Spells IsEventRefusal 0 limit w other → reading ≡ other }
+    // JSON Lines: at least one reading.
+    ensures some_lines { (limit : ℕ) (w : List ℕ)
+        → (reading : PlainReading EventValue) × ReadsLines Spells IsEventRefusal 0 limit w reading }
+    // JSON Lines: at most one reading.
+    ensures one_lines { (limit : ℕ) (w : List ℕ) (reading other : PlainReading EventValue)
+        → ReadsLines Spells IsEventRefusal 0 limit w reading
+        → ReadsLines Spells IsEventRefusal 0 limit w other → reading ≡ other }
     // A chunked stream: at least one reading.
     ensures some_stream { (limit : ℕ) (w : List ℕ)
         → (reading : StreamReading EventValue)
@@ -112,6 +134,7 @@ pub fn event_reading_is_unique()
 {
     message_reading_is_unique::<Event>();
     plain_reading_is_unique::<EventReader>();
+    line_reading_is_unique::<EventReader>();
     stream_reading_is_unique::<EventReader>();
     chunking_is_irrelevant::<EventReader>();
 }
@@ -140,7 +163,7 @@ pub fn one_answer()
 /// events, the end or error and the number of bytes used are the same, if no allocation fails.
 pub fn one_decoding()
     // The same concatenated pieces, the same outcome.
-    ensures { (limit : ℕ) (first second : DecoderValue ReaderValue) (pieces others : List (List ℕ))
+    ensures { (limit : ℕ) (first second : DecoderValue (ReaderValue EventValue)) (pieces others : List (List ℕ))
         (calls more : List (ℕ × Answer EventValue Fault)) (outcome other : DecodeOutcome)
         → DecoderRepresents HoldsData Spells first limit [] []
         → DecoderRepresents HoldsData Spells second limit [] [] → joined pieces ≡ joined others
@@ -174,5 +197,17 @@ pub fn one_plain_outcome()
         → (events ≡ others) × IsSameOutcome a.left b.left outcome other }
 {
     message_reading_is_unique::<Event>();
+    event_reading_is_unique();
+}
+
+/// Like [`one_stream_outcome`], for [`read_messages`](crate::read_messages) of JSON Lines.
+pub fn one_line_outcome()
+    // The same bytes of the device, the same events and result.
+    ensures { (limit : ℕ) (w : List ℕ) (events others : List EventValue)
+        (outcome other : Result Report Stop) (a : AnswersLines limit w events outcome)
+        (b : AnswersLines limit w others other)
+        → IsDecidedByBytes outcome → IsDecidedByBytes other
+        → (events ≡ others) × IsSameOutcome a.left b.left outcome other }
+{
     event_reading_is_unique();
 }

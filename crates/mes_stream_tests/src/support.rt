@@ -4,7 +4,7 @@
 
 use mes_frame::{Limit, MemorySource};
 use mes_msg::Event;
-use mes_stream::{Framing, Report, Stop, read_plain, read_stream};
+use mes_stream::{Framing, Report, Stop, read_messages, read_plain, read_stream};
 use std::alloc::Global;
 use std::test::Fail;
 
@@ -60,7 +60,7 @@ pub(crate) fn bytes_of(alloc: Global, text: &str) -> Result<Vec<u8>, Fail> {
 /// used.
 pub(crate) type Came = (&'static str, usize, u64);
 
-/// Reads a stream in either framing.
+/// Reads a stream in any framing.
 pub(crate) fn read_into(
     alloc: Global,
     framing: Framing,
@@ -72,6 +72,7 @@ pub(crate) fn read_into(
     match framing {
         Framing::Plain => read_plain(alloc, source, limit, max_reads, events),
         Framing::Chunked => read_stream(alloc, source, limit, max_reads, events),
+        Framing::Lines => read_messages(alloc, source, framing, limit, max_reads, events),
     }
 }
 

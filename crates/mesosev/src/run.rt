@@ -3,15 +3,15 @@ ghost use Rattle.std.specs.Prelude.{◌≡◌, codes, ◌⊎◌, false, map};
 ghost use Rattle.mes_frame.specs.Devices.{Device};
 ghost use Rattle.mesosev_stream.specs.Outputs.{output_of};
 ghost use Rattle.mesosev_stream.specs.Printing.{LacksMemory, Prints};
-ghost use Rattle.mesosev_stream.specs.Showing.{Follows};
 ghost use Rattle.mesosev_args.specs.NamedOptions.{SayPlainly, IsInRange};
-ghost use Rattle.mesosev.specs.Running.{Ends, LeavesError, Performs, PerformsSaid, Runs};
-ghost use Rattle.mesosev.specs.Reporting.{Reports, ReportsError, not_text_line};
+ghost use Rattle.mesosev.specs.Running.{ConvertsRecords, Ends, ExportsRecords, FollowsRecords, LeavesError, Performs, PerformsSaid, Runs};
+ghost use Rattle.mesosev.specs.Reporting.{Reports, ReportsError, conflict_line, not_text_line};
 ghost use Rattle.mesosev_args.specs.declared.args.Options.{Options as OptionsValue};
 
 use mes_double_http::Host;
 use mes_frame::{Limit, Sink, Source};
 use mes_json::Text;
+use mes_msg::{Call, Event};
 use mes_stream::Framing;
 use mesosev_args::{
     DEFAULT_HEARTBEAT, DEFAULT_LIMIT, DEFAULT_LOOPBACK_CHUNK, DEFAULT_MASTER_CHUNK, DEFAULT_RESEND,
@@ -23,8 +23,8 @@ use mesosev_live::{MasterOptions, master};
 use mesosev_log::{relog, replay, replay_json};
 use mesosev_net::{loopback, serve, subscribe, subscribe_json};
 use mesosev_stream::{
-    Detail, ExitStatus, MAX_READS, Output, RunOutcome, convert, export, finish, follow,
-    out_of_memory, print_text,
+    Detail, ExitStatus, MAX_READS, Output, OutputFormat, RunOutcome, convert, export, finish,
+    follow, out_of_memory, print_text,
 };
 use std::alloc::{AllocGlobal, Global};
 use std::convert::AsStr;
@@ -137,19 +137,25 @@ where
 {
     let alloc = rt.alloc();
     match options {
-        Options::Check { framing, limit } => {
-            follow_all(alloc, Detail::Counts, *framing, *limit, input, out)
-        }
+        Options::Check {
+            framing,
+            limit,
+            calls,
+        } => follow_all(alloc, Detail::Counts, *framing, *limit, *calls, input, out),
         Options::Show {
             framing,
             limit,
             json,
-        } => show(alloc, *framing, *limit, *json, input, out, err),
+            calls,
+        } => show(alloc, *framing, *limit, *json, *calls, input, out, err),
         Options::Convert {
             framing,
             limit,
             format,
-        } => RunOutcome::Status(convert(alloc, *framing, *limit, *format, input, out, err)),
+            calls,
+        } => RunOutcome::Status(convert_all(
+            alloc, *framing, *limit, *format, *calls, input, out, err,
+        )),
         Options::Replay { limit, json } => replay_log(alloc, *limit, *json, input, out, err),
         Options::Relog { limit } => RunOutcome::Status(relog(alloc, *limit, input, out, err)),
         Options::Serve {
@@ -165,6 +171,7 @@ where
             seconds,
             most,
             once,
+            plan,
         } => {
             let options = MasterOptions {
                 port: *port,
@@ -175,7 +182,7 @@ where
                 most: *most,
                 once: *once,
             };
-            master(rt, &options, input, out)
+            master(rt, &options, plan, input, out)
         }
         Options::Subscribe {
             to,
@@ -188,26 +195,68 @@ where
     }
 }
 
-// Performs `show`: prints the lines of the events, or with `json` writes them as JSON Lines.
+// Performs `show`: prints the lines of the messages, or with `json` writes them as JSON Lines.
 fn show<I: Source, O: Sink, E: Sink>(
     alloc: Global,
     framing: Framing,
     limit: Limit,
     json: bool,
+    calls: bool,
     input: &mut I,
     out: &mut O,
     err: &mut E,
 ) -> RunOutcome
-    ensures { Performs (Options.Show framing limit json)
+    ensures { Performs (Options.Show framing limit json calls)
         (I.device input.old) (I.device input.new)
         (O.device out.old) (O.device out.new)
         (E.device err.old) (E.device err.new)
         result }
 {
     if json {
-        export(alloc, framing, limit, MAX_READS, input, out, err)
+        export_all(alloc, framing, limit, calls, input, out, err)
     } else {
-        follow_all(alloc, Detail::Lines, framing, limit, input, out)
+        follow_all(alloc, Detail::Lines, framing, limit, calls, input, out)
+    }
+}
+
+// Performs `show --json` with at most `MAX_READS` reads of the input.
+fn export_all<I: Source, O: Sink, E: Sink>(
+    alloc: Global,
+    framing: Framing,
+    limit: Limit,
+    calls: bool,
+    input: &mut I,
+    out: &mut O,
+    err: &mut E,
+) -> RunOutcome
+    ensures { ExportsRecords calls framing limit (I.device input.old) (I.device input.new)
+        (O.device out.old) (O.device out.new) (E.device err.old) (E.device err.new) result }
+{
+    if calls {
+        export::<Call, _, _, _>(alloc, framing, limit, MAX_READS, input, out, err)
+    } else {
+        export::<Event, _, _, _>(alloc, framing, limit, MAX_READS, input, out, err)
+    }
+}
+
+// Performs `convert`.
+fn convert_all<I: Source, O: Sink, E: Sink>(
+    alloc: Global,
+    framing: Framing,
+    limit: Limit,
+    format: OutputFormat,
+    calls: bool,
+    input: &mut I,
+    out: &mut O,
+    err: &mut E,
+) -> ExitStatus
+    ensures { ConvertsRecords calls framing limit format (I.device input.old) (I.device input.new)
+        (O.device out.old) (O.device out.new) (E.device err.old) (E.device err.new) result }
+{
+    if calls {
+        convert::<Call, _, _, _>(alloc, framing, limit, format, input, out, err)
+    } else {
+        convert::<Event, _, _, _>(alloc, framing, limit, format, input, out, err)
     }
 }
 
@@ -265,14 +314,18 @@ fn follow_all<I: Source, O: Sink>(
     detail: Detail,
     framing: Framing,
     limit: Limit,
+    calls: bool,
     input: &mut I,
     out: &mut O,
 ) -> RunOutcome
-    ensures { Follows detail framing limit MAX_READS (I.device input.old)
-        (I.device input.new)
+    ensures { FollowsRecords calls detail framing limit (I.device input.old) (I.device input.new)
         (O.device out.old) (O.device out.new) result }
 {
-    follow(alloc, detail, framing, limit, MAX_READS, input, out)
+    if calls {
+        follow::<Call, _, _>(alloc, detail, framing, limit, MAX_READS, input, out)
+    } else {
+        follow::<Event, _, _>(alloc, detail, framing, limit, MAX_READS, input, out)
+    }
 }
 
 /// Prints that an allocation failed before the arguments were parsed, and returns the exit status.
@@ -296,7 +349,7 @@ pub(crate) fn end_without_text<E: Sink>(err: &mut E) -> ExitStatus
 }
 
 /// Prints the reason for which the arguments have no options: clap's result, a value that is out of
-/// range, or a failed allocation.
+/// range, two options that exclude each other, or a failed allocation.
 fn tell<O: Sink, E: Sink>(alloc: Global, fault: &WordsFault, out: &mut O, err: &mut E) -> RunOutcome
     ensures { Reports fault.now
         (O.device out.old) (O.device out.new)
@@ -309,7 +362,29 @@ fn tell<O: Sink, E: Sink>(alloc: Global, fault: &WordsFault, out: &mut O, err: &
             Ok(text) => ExitStatus::Usage.after(print_text(err, text.as_str())),
             Err(_) => out_of_memory(out),
         },
+        WordsFault::Conflict { option, other } => tell_conflict(alloc, option, other, out, err),
         WordsFault::NoMemory => out_of_memory(out),
+    }
+}
+
+/// Prints clap's line for two options that exclude each other.
+fn tell_conflict<O: Sink, E: Sink>(
+    alloc: Global,
+    option: &str,
+    other: &str,
+    out: &mut O,
+    err: &mut E,
+) -> RunOutcome
+    ensures { Prints (E.device err.old) (E.device err.new)
+        (conflict_line option.now other.now) ExitStatus.Usage result
+        × (O.device out.new ≡ O.device out.old)
+        ⊎ (LacksMemory (O.device out.old) (O.device out.new)
+        result
+        × (E.device err.new ≡ E.device err.old)) }
+{
+    match format!(in alloc; "error: the argument '--{option}' cannot be used with '--{other}'\n") {
+        Ok(text) => ExitStatus::Usage.after(print_text(err, text.as_str())),
+        Err(_) => out_of_memory(out),
     }
 }
 

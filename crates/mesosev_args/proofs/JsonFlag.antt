@@ -1,21 +1,17 @@
 -- The flag `--json` in clap's model, after any other arguments.
-use Rattle.std.proofs.Common.{◌≡◌, ◌++◌, ◌∙◌, append-nil, List, [], ◌∷◌, Option, Some, Bool, true, false, refl, sym, subst}
+use Rattle.std.proofs.Common.{◌≡◌, ◌++◌, append-nil, List, [], ◌∷◌, Some, Bool, true, false, refl, sym, subst}
 use Rattle.std.specs.Prelude.{codes}
 use Rattle.clap.specs.Faults.{use_fault}
-use Rattle.clap.specs.Words.{Row, Rule, Text, one_of}
+use Rattle.clap.specs.Words.{Row, Rule, Text}
 use Rattle.clap.specs.Simple.{Shape, filled}
 use Rattle.clap.specs.Walk.{arg_by_long, used}
 use Rattle.mesosev_args.specs.CommandLine.{json_rule}
-use Rattle.mesosev_args.specs.NamedOptions.{HasFlag, SayFlag}
+use Rattle.mesosev_args.specs.NamedOptions.{SayFlag}
 use Rattle.mesosev_args.proofs.Walks.{IsFlag, Reaches, reaches_flag}
 
 abbrev pub json_words : Bool → List Text
 json_words false = []
 json_words true = codes "--json" ∷ []
-
-abbrev pub json_text : Bool → Option Text
-json_text false = Some (codes "false")
-json_text true = Some (codes "true")
 
 -- the rows of the matches after the flag
 abbrev pub rows_json : Bool → List Row → List Row
@@ -25,10 +21,6 @@ rows_json true rows = used (filled json_rule) [] rows
 pub json_said : (json : Bool) (words : List Text) → SayFlag (codes "--json") words json → words ≡ json_words json
 json_said false words is = is
 json_said true words is = is
-
-pub has_json : (json : Bool) (rows : List Row) → one_of (codes "json") rows ≡ json_text json → HasFlag (codes "json") rows json
-has_json false rows is = λ set. let other : Some (codes "false") ≡ Some (codes "true") = sym is ∙ set in absurd (cc)
-has_json true rows is = is
 
 pub json_is : (c : List Rule) → arg_by_long c (codes "json") ≡ Some (filled json_rule) → IsFlag c (filled json_rule) (codes "--json") (codes "json")
 json_is c by_long = record { dashes = refl; long = refl; by_long = by_long; takes = refl }

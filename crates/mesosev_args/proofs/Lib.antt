@@ -1,4 +1,6 @@
 mod ConvertArgs
+mod FaultLemmas
+mod FaultsOnce
 mod JsonFlag
 mod LogArgs
 mod LoopbackArgs

@@ -7,7 +7,8 @@ use Rattle.clap.specs.Simple.{Shape, built, filled, filled_from, help_rule, vers
 use Rattle.clap.specs.Walk.{with_default}
 use Rattle.clap.proofs.OnLiterals.{clap_on_literals}
 use Rattle.mesosev_args.specs.CommandLine.{command_app, limit_rule}
-use Rattle.mesosev_args.specs.NamedOptions.{HasLimit, IsLimit, SayLog}
+use Rattle.mesosev_args.specs.NamedOptions.{SayLog}
+use Rattle.mesosev_args.specs.OptionValues.{HasLimit, IsLimit}
 use Rattle.mesosev_args.proofs.OptionArgs.{Fits, SaysLimit, has_number, limit_is, limit_parser, read_plain, read_value, says_limit, usual_limit, value_or}
 use Rattle.mesosev_args.proofs.Subcommands.{IsSubcommand, leaf_shape}
 use Rattle.mesosev_args.proofs.ParsedArgs.{Takes, takes_words}

@@ -6,7 +6,8 @@ use Rattle.clap.specs.Simple.{Shape, built, filled, filled_from, help_rule, vers
 use Rattle.clap.specs.Walk.{with_default}
 use Rattle.clap.proofs.OnLiterals.{clap_on_literals}
 use Rattle.mesosev_args.specs.CommandLine.{command_app, most_rule, usually}
-use Rattle.mesosev_args.specs.NamedOptions.{HasNumber, IsMost, SayLoopback}
+use Rattle.mesosev_args.specs.NamedOptions.{SayLoopback}
+use Rattle.mesosev_args.specs.OptionValues.{HasNumber, IsMost}
 use Rattle.mes_frame.specs.declared.limits.TheConstants.{MIN_CHUNK, MAX_CHUNK}
 use Rattle.mesosev_args.specs.declared.args.TheConstants.{DEFAULT_LOOPBACK_CHUNK}
 use Rattle.mesosev_args.proofs.OptionArgs.{Fits, Says, has_number, most_parser, read_plain, read_value, says_usually, value_or}

@@ -1,19 +1,22 @@
 -- Arguments of `master` in the usual spelling are accepted, and give the values that they name.
 use Rattle.std.proofs.Common.{◌≡◌, ◌++◌, ◌∙◌, ap, append_assoc, append-nil, subst, sym, ℕ, List, [], ◌∷◌, Bool, true, false, Option, Some, None, refl, arith}
-use Rattle.std.specs.Prelude.{codes, fold}
-use Rattle.clap.specs.Words.{Row, Rule, Text, one_of}
+use Rattle.std.specs.Prelude.{codes, fold, unwrap_or}
+use Rattle.std.specs.List.{AllZip}
+use Rattle.clap.specs.Words.{Row, Rule, Text, all_of, one_of}
 use Rattle.clap.specs.Faults.{use_fault}
 use Rattle.clap.specs.Simple.{Shape, built, filled, filled_from, help_rule, version_rule}
 use Rattle.clap.specs.Walk.{used, with_default}
 use Rattle.clap.specs.declared.builder.value_parser.ValueParser.{ValueParser}
 use Rattle.clap.proofs.OnLiterals.{clap_on_literals}
-use Rattle.mesosev_args.specs.CommandLine.{chunk_rule, command_app, finish_after_rule, heartbeat_rule, master_port_rule, once_rule, resend_rule, seconds_rule}
-use Rattle.mesosev_args.specs.NamedOptions.{HasFlag, HasNumber, HasOptional, IsInRange, SayFlag, SayMaster}
+use Rattle.mesosev_args.specs.CommandLine.{chunk_rule, command_app, fault_rule, faults_rule, finish_after_rule, heartbeat_rule, master_port_rule, once_rule, resend_rule, seconds_rule, seed_rule}
+use Rattle.mesosev_args.specs.NamedOptions.{IsInRange, SayFlag, SayMaster}
+use Rattle.mesosev_args.specs.OptionValues.{HasFaults, HasFlag, HasNumber, HasOptional, HasRandom, NamesFault}
+use Rattle.mes_double_faults.specs.Plans.{Plan}
 use Rattle.mesosev_args.specs.declared.args.Options.TheVariants.{Master}
 use Rattle.mes_frame.specs.declared.limits.TheConstants.{MIN_CHUNK, MAX_CHUNK}
 use Rattle.mesosev_args.specs.declared.args.TheConstants.{MIN_MASTER_PORT, MAX_PORT, MAX_SECONDS, MIN_HEARTBEAT, MIN_RESEND, MIN_FINISH_AFTER, MIN_SECONDS}
 use Rattle.mesosev_args.specs.declared.args.TheConstants.{DEFAULT_HEARTBEAT, DEFAULT_MASTER_CHUNK, DEFAULT_RESEND}
-use Rattle.mesosev_args.proofs.OptionArgs.{Fits, Says, SaysOptional, given_number, gives_number, has_number, has_optional, most_parser, number_parser, reaches_given, read_plain, read_value, says_number, says_optional, says_usually, value_or}
+use Rattle.mesosev_args.proofs.OptionArgs.{Fits, Says, SaysOptional, given_number, gives_number, has_flag, has_number, has_optional, most_parser, number_parser, reaches_given, read_plain, read_value, says_number, says_optional, says_usually, set_text, value_or}
 use Rattle.mesosev_args.proofs.Subcommands.{IsSubcommand, leaf_shape}
 use Rattle.mesosev_args.proofs.ParsedArgs.{Takes, takes_words}
 use Rattle.mesosev_args.proofs.Walks.{IsFlag, IsOption, IsUsable, Reaches, end_fault, given_value, given_words, reaches_flag, reaches_option, reaches_start, used_value}
@@ -21,7 +24,8 @@ use Rattle.mesosev_args.proofs.Walks.{IsFlag, IsOption, IsUsable, Reaches, end_f
 -- the rules of the subcommand's arguments, as clap builds them
 abbrev rules : List Rule
 rules = filled_from 1
-    (master_port_rule ∷ heartbeat_rule ∷ resend_rule ∷ finish_after_rule ∷ seconds_rule ∷ chunk_rule ∷ once_rule ∷ help_rule ∷ version_rule ∷ [])
+    (master_port_rule ∷ heartbeat_rule ∷ resend_rule ∷ finish_after_rule ∷ seconds_rule ∷ chunk_rule ∷ fault_rule ∷ faults_rule ∷ seed_rule ∷ once_rule
+    ∷ help_rule ∷ version_rule ∷ [])
 
 abbrev shape : Shape
 shape = leaf_shape (codes "master") rules
@@ -189,81 +193,77 @@ usual_resend = Some DEFAULT_RESEND.now
 abbrev usual_size : Option Text
 usual_size = Some DEFAULT_MASTER_CHUNK.now
 
-abbrev flag_text : Bool → Option Text
-flag_text false = Some (codes "false")
-flag_text true = Some (codes "true")
-
 abbrev HasTexts : List Row → Text → Option Text → Option Text → Option Text → Option Text → Option Text → Bool → Type 0
 HasTexts rows p h r f s m o = (one_of (codes "port") rows ≡ read_value (Some p)) × (one_of (codes "heartbeat") rows ≡ value_or usual_heartbeat (read_value h))
     × (one_of (codes "resend") rows ≡ value_or usual_resend (read_value r)) × (one_of (codes "finish-after") rows ≡ read_value f)
     × (one_of (codes "seconds") rows ≡ read_value s) × (one_of (codes "most") rows ≡ value_or usual_size (read_value m))
-    × (one_of (codes "once") rows ≡ flag_text o)
+    × (one_of (codes "once") rows ≡ set_text o) × (all_of (codes "fault") rows ≡ None) × (one_of (codes "faults") rows ≡ None)
 
 texts : (p : Text) (h r f s m : Option Text) (o : Bool) → HasTexts (rows_end p h r f s m o) p h r f s m o
-texts p None None None None None false = (refl, refl, refl, refl, refl, refl, refl)
-texts p None None None None None true = (refl, refl, refl, refl, refl, refl, refl)
-texts p None None None None (Some m) false = (refl, refl, refl, refl, refl, refl, refl)
-texts p None None None None (Some m) true = (refl, refl, refl, refl, refl, refl, refl)
-texts p None None None (Some s) None false = (refl, refl, refl, refl, refl, refl, refl)
-texts p None None None (Some s) None true = (refl, refl, refl, refl, refl, refl, refl)
-texts p None None None (Some s) (Some m) false = (refl, refl, refl, refl, refl, refl, refl)
-texts p None None None (Some s) (Some m) true = (refl, refl, refl, refl, refl, refl, refl)
-texts p None None (Some f) None None false = (refl, refl, refl, refl, refl, refl, refl)
-texts p None None (Some f) None None true = (refl, refl, refl, refl, refl, refl, refl)
-texts p None None (Some f) None (Some m) false = (refl, refl, refl, refl, refl, refl, refl)
-texts p None None (Some f) None (Some m) true = (refl, refl, refl, refl, refl, refl, refl)
-texts p None None (Some f) (Some s) None false = (refl, refl, refl, refl, refl, refl, refl)
-texts p None None (Some f) (Some s) None true = (refl, refl, refl, refl, refl, refl, refl)
-texts p None None (Some f) (Some s) (Some m) false = (refl, refl, refl, refl, refl, refl, refl)
-texts p None None (Some f) (Some s) (Some m) true = (refl, refl, refl, refl, refl, refl, refl)
-texts p None (Some r) None None None false = (refl, refl, refl, refl, refl, refl, refl)
-texts p None (Some r) None None None true = (refl, refl, refl, refl, refl, refl, refl)
-texts p None (Some r) None None (Some m) false = (refl, refl, refl, refl, refl, refl, refl)
-texts p None (Some r) None None (Some m) true = (refl, refl, refl, refl, refl, refl, refl)
-texts p None (Some r) None (Some s) None false = (refl, refl, refl, refl, refl, refl, refl)
-texts p None (Some r) None (Some s) None true = (refl, refl, refl, refl, refl, refl, refl)
-texts p None (Some r) None (Some s) (Some m) false = (refl, refl, refl, refl, refl, refl, refl)
-texts p None (Some r) None (Some s) (Some m) true = (refl, refl, refl, refl, refl, refl, refl)
-texts p None (Some r) (Some f) None None false = (refl, refl, refl, refl, refl, refl, refl)
-texts p None (Some r) (Some f) None None true = (refl, refl, refl, refl, refl, refl, refl)
-texts p None (Some r) (Some f) None (Some m) false = (refl, refl, refl, refl, refl, refl, refl)
-texts p None (Some r) (Some f) None (Some m) true = (refl, refl, refl, refl, refl, refl, refl)
-texts p None (Some r) (Some f) (Some s) None false = (refl, refl, refl, refl, refl, refl, refl)
-texts p None (Some r) (Some f) (Some s) None true = (refl, refl, refl, refl, refl, refl, refl)
-texts p None (Some r) (Some f) (Some s) (Some m) false = (refl, refl, refl, refl, refl, refl, refl)
-texts p None (Some r) (Some f) (Some s) (Some m) true = (refl, refl, refl, refl, refl, refl, refl)
-texts p (Some h) None None None None false = (refl, refl, refl, refl, refl, refl, refl)
-texts p (Some h) None None None None true = (refl, refl, refl, refl, refl, refl, refl)
-texts p (Some h) None None None (Some m) false = (refl, refl, refl, refl, refl, refl, refl)
-texts p (Some h) None None None (Some m) true = (refl, refl, refl, refl, refl, refl, refl)
-texts p (Some h) None None (Some s) None false = (refl, refl, refl, refl, refl, refl, refl)
-texts p (Some h) None None (Some s) None true = (refl, refl, refl, refl, refl, refl, refl)
-texts p (Some h) None None (Some s) (Some m) false = (refl, refl, refl, refl, refl, refl, refl)
-texts p (Some h) None None (Some s) (Some m) true = (refl, refl, refl, refl, refl, refl, refl)
-texts p (Some h) None (Some f) None None false = (refl, refl, refl, refl, refl, refl, refl)
-texts p (Some h) None (Some f) None None true = (refl, refl, refl, refl, refl, refl, refl)
-texts p (Some h) None (Some f) None (Some m) false = (refl, refl, refl, refl, refl, refl, refl)
-texts p (Some h) None (Some f) None (Some m) true = (refl, refl, refl, refl, refl, refl, refl)
-texts p (Some h) None (Some f) (Some s) None false = (refl, refl, refl, refl, refl, refl, refl)
-texts p (Some h) None (Some f) (Some s) None true = (refl, refl, refl, refl, refl, refl, refl)
-texts p (Some h) None (Some f) (Some s) (Some m) false = (refl, refl, refl, refl, refl, refl, refl)
-texts p (Some h) None (Some f) (Some s) (Some m) true = (refl, refl, refl, refl, refl, refl, refl)
-texts p (Some h) (Some r) None None None false = (refl, refl, refl, refl, refl, refl, refl)
-texts p (Some h) (Some r) None None None true = (refl, refl, refl, refl, refl, refl, refl)
-texts p (Some h) (Some r) None None (Some m) false = (refl, refl, refl, refl, refl, refl, refl)
-texts p (Some h) (Some r) None None (Some m) true = (refl, refl, refl, refl, refl, refl, refl)
-texts p (Some h) (Some r) None (Some s) None false = (refl, refl, refl, refl, refl, refl, refl)
-texts p (Some h) (Some r) None (Some s) None true = (refl, refl, refl, refl, refl, refl, refl)
-texts p (Some h) (Some r) None (Some s) (Some m) false = (refl, refl, refl, refl, refl, refl, refl)
-texts p (Some h) (Some r) None (Some s) (Some m) true = (refl, refl, refl, refl, refl, refl, refl)
-texts p (Some h) (Some r) (Some f) None None false = (refl, refl, refl, refl, refl, refl, refl)
-texts p (Some h) (Some r) (Some f) None None true = (refl, refl, refl, refl, refl, refl, refl)
-texts p (Some h) (Some r) (Some f) None (Some m) false = (refl, refl, refl, refl, refl, refl, refl)
-texts p (Some h) (Some r) (Some f) None (Some m) true = (refl, refl, refl, refl, refl, refl, refl)
-texts p (Some h) (Some r) (Some f) (Some s) None false = (refl, refl, refl, refl, refl, refl, refl)
-texts p (Some h) (Some r) (Some f) (Some s) None true = (refl, refl, refl, refl, refl, refl, refl)
-texts p (Some h) (Some r) (Some f) (Some s) (Some m) false = (refl, refl, refl, refl, refl, refl, refl)
-texts p (Some h) (Some r) (Some f) (Some s) (Some m) true = (refl, refl, refl, refl, refl, refl, refl)
+texts p None None None None None false = (refl, refl, refl, refl, refl, refl, refl, refl, refl)
+texts p None None None None None true = (refl, refl, refl, refl, refl, refl, refl, refl, refl)
+texts p None None None None (Some m) false = (refl, refl, refl, refl, refl, refl, refl, refl, refl)
+texts p None None None None (Some m) true = (refl, refl, refl, refl, refl, refl, refl, refl, refl)
+texts p None None None (Some s) None false = (refl, refl, refl, refl, refl, refl, refl, refl, refl)
+texts p None None None (Some s) None true = (refl, refl, refl, refl, refl, refl, refl, refl, refl)
+texts p None None None (Some s) (Some m) false = (refl, refl, refl, refl, refl, refl, refl, refl, refl)
+texts p None None None (Some s) (Some m) true = (refl, refl, refl, refl, refl, refl, refl, refl, refl)
+texts p None None (Some f) None None false = (refl, refl, refl, refl, refl, refl, refl, refl, refl)
+texts p None None (Some f) None None true = (refl, refl, refl, refl, refl, refl, refl, refl, refl)
+texts p None None (Some f) None (Some m) false = (refl, refl, refl, refl, refl, refl, refl, refl, refl)
+texts p None None (Some f) None (Some m) true = (refl, refl, refl, refl, refl, refl, refl, refl, refl)
+texts p None None (Some f) (Some s) None false = (refl, refl, refl, refl, refl, refl, refl, refl, refl)
+texts p None None (Some f) (Some s) None true = (refl, refl, refl, refl, refl, refl, refl, refl, refl)
+texts p None None (Some f) (Some s) (Some m) false = (refl, refl, refl, refl, refl, refl, refl, refl, refl)
+texts p None None (Some f) (Some s) (Some m) true = (refl, refl, refl, refl, refl, refl, refl, refl, refl)
+texts p None (Some r) None None None false = (refl, refl, refl, refl, refl, refl, refl, refl, refl)
+texts p None (Some r) None None None true = (refl, refl, refl, refl, refl, refl, refl, refl, refl)
+texts p None (Some r) None None (Some m) false = (refl, refl, refl, refl, refl, refl, refl, refl, refl)
+texts p None (Some r) None None (Some m) true = (refl, refl, refl, refl, refl, refl, refl, refl, refl)
+texts p None (Some r) None (Some s) None false = (refl, refl, refl, refl, refl, refl, refl, refl, refl)
+texts p None (Some r) None (Some s) None true = (refl, refl, refl, refl, refl, refl, refl, refl, refl)
+texts p None (Some r) None (Some s) (Some m) false = (refl, refl, refl, refl, refl, refl, refl, refl, refl)
+texts p None (Some r) None (Some s) (Some m) true = (refl, refl, refl, refl, refl, refl, refl, refl, refl)
+texts p None (Some r) (Some f) None None false = (refl, refl, refl, refl, refl, refl, refl, refl, refl)
+texts p None (Some r) (Some f) None None true = (refl, refl, refl, refl, refl, refl, refl, refl, refl)
+texts p None (Some r) (Some f) None (Some m) false = (refl, refl, refl, refl, refl, refl, refl, refl, refl)
+texts p None (Some r) (Some f) None (Some m) true = (refl, refl, refl, refl, refl, refl, refl, refl, refl)
+texts p None (Some r) (Some f) (Some s) None false = (refl, refl, refl, refl, refl, refl, refl, refl, refl)
+texts p None (Some r) (Some f) (Some s) None true = (refl, refl, refl, refl, refl, refl, refl, refl, refl)
+texts p None (Some r) (Some f) (Some s) (Some m) false = (refl, refl, refl, refl, refl, refl, refl, refl, refl)
+texts p None (Some r) (Some f) (Some s) (Some m) true = (refl, refl, refl, refl, refl, refl, refl, refl, refl)
+texts p (Some h) None None None None false = (refl, refl, refl, refl, refl, refl, refl, refl, refl)
+texts p (Some h) None None None None true = (refl, refl, refl, refl, refl, refl, refl, refl, refl)
+texts p (Some h) None None None (Some m) false = (refl, refl, refl, refl, refl, refl, refl, refl, refl)
+texts p (Some h) None None None (Some m) true = (refl, refl, refl, refl, refl, refl, refl, refl, refl)
+texts p (Some h) None None (Some s) None false = (refl, refl, refl, refl, refl, refl, refl, refl, refl)
+texts p (Some h) None None (Some s) None true = (refl, refl, refl, refl, refl, refl, refl, refl, refl)
+texts p (Some h) None None (Some s) (Some m) false = (refl, refl, refl, refl, refl, refl, refl, refl, refl)
+texts p (Some h) None None (Some s) (Some m) true = (refl, refl, refl, refl, refl, refl, refl, refl, refl)
+texts p (Some h) None (Some f) None None false = (refl, refl, refl, refl, refl, refl, refl, refl, refl)
+texts p (Some h) None (Some f) None None true = (refl, refl, refl, refl, refl, refl, refl, refl, refl)
+texts p (Some h) None (Some f) None (Some m) false = (refl, refl, refl, refl, refl, refl, refl, refl, refl)
+texts p (Some h) None (Some f) None (Some m) true = (refl, refl, refl, refl, refl, refl, refl, refl, refl)
+texts p (Some h) None (Some f) (Some s) None false = (refl, refl, refl, refl, refl, refl, refl, refl, refl)
+texts p (Some h) None (Some f) (Some s) None true = (refl, refl, refl, refl, refl, refl, refl, refl, refl)
+texts p (Some h) None (Some f) (Some s) (Some m) false = (refl, refl, refl, refl, refl, refl, refl, refl, refl)
+texts p (Some h) None (Some f) (Some s) (Some m) true = (refl, refl, refl, refl, refl, refl, refl, refl, refl)
+texts p (Some h) (Some r) None None None false = (refl, refl, refl, refl, refl, refl, refl, refl, refl)
+texts p (Some h) (Some r) None None None true = (refl, refl, refl, refl, refl, refl, refl, refl, refl)
+texts p (Some h) (Some r) None None (Some m) false = (refl, refl, refl, refl, refl, refl, refl, refl, refl)
+texts p (Some h) (Some r) None None (Some m) true = (refl, refl, refl, refl, refl, refl, refl, refl, refl)
+texts p (Some h) (Some r) None (Some s) None false = (refl, refl, refl, refl, refl, refl, refl, refl, refl)
+texts p (Some h) (Some r) None (Some s) None true = (refl, refl, refl, refl, refl, refl, refl, refl, refl)
+texts p (Some h) (Some r) None (Some s) (Some m) false = (refl, refl, refl, refl, refl, refl, refl, refl, refl)
+texts p (Some h) (Some r) None (Some s) (Some m) true = (refl, refl, refl, refl, refl, refl, refl, refl, refl)
+texts p (Some h) (Some r) (Some f) None None false = (refl, refl, refl, refl, refl, refl, refl, refl, refl)
+texts p (Some h) (Some r) (Some f) None None true = (refl, refl, refl, refl, refl, refl, refl, refl, refl)
+texts p (Some h) (Some r) (Some f) None (Some m) false = (refl, refl, refl, refl, refl, refl, refl, refl, refl)
+texts p (Some h) (Some r) (Some f) None (Some m) true = (refl, refl, refl, refl, refl, refl, refl, refl, refl)
+texts p (Some h) (Some r) (Some f) (Some s) None false = (refl, refl, refl, refl, refl, refl, refl, refl, refl)
+texts p (Some h) (Some r) (Some f) (Some s) None true = (refl, refl, refl, refl, refl, refl, refl, refl, refl)
+texts p (Some h) (Some r) (Some f) (Some s) (Some m) false = (refl, refl, refl, refl, refl, refl, refl, refl, refl)
+texts p (Some h) (Some r) (Some f) (Some s) (Some m) true = (refl, refl, refl, refl, refl, refl, refl, refl, refl)
 
 good_end : (p : Text) (h r f s m : Option Text) (o : Bool) → end_fault shape (rows_said p h r f s m o) ≡ []
 unfolding clap_on_literals
@@ -342,10 +342,6 @@ flag_is : (o : Bool) (words : List Text) → SayFlag (codes "--once") words o �
 flag_is false words is = is
 flag_is true words is = is
 
-has_flag : (o : Bool) (rows : List Row) → one_of (codes "once") rows ≡ flag_text o → HasFlag (codes "once") rows o
-has_flag false rows is = λ set. let other : Some (codes "false") ≡ Some (codes "true") = sym is ∙ set in absurd (cc)
-has_flag true rows is = is
-
 reaches_once : (words : List Text) (p : Text) (h r f s m : Option Text) (o : Bool) → Reaches shape words (rows_most p h r f s m)
     → Reaches shape (words ++ flag_words o) (rows_said p h r f s m o)
 reaches_once words p h r f s m false reaches = subst (λ (w : List Text). Reaches shape w (rows_most p h r f s m)) (sym (append-nil words)) reaches
@@ -363,11 +359,13 @@ pub record SaidMaster (words : List Text) (port heartbeat resend : ℕ) (finish_
   pub seconds_has : HasOptional (codes "seconds") rows seconds
   pub most_has : HasNumber (codes "most") rows most
   pub once_has : HasFlag (codes "once") rows once
+  pub faults_has : HasFaults rows []
+  pub random_has : HasRandom rows None
 
-pub said_master : (words : List Text) (port heartbeat resend : ℕ) (finish_after seconds : Option ℕ) (most : ℕ) (once : Bool)
-    → SayMaster words port heartbeat resend finish_after seconds most once → IsInRange (Master port heartbeat resend finish_after seconds most once)
+pub said_master : (words : List Text) (port heartbeat resend : ℕ) (finish_after seconds : Option ℕ) (most : ℕ) (once : Bool) (plan : Plan)
+    → SayMaster words port heartbeat resend finish_after seconds most once → IsInRange (Master port heartbeat resend finish_after seconds most once plan)
     → SaidMaster words port heartbeat resend finish_after seconds most once
-said_master words port heartbeat resend finish_after seconds most once
+said_master words port heartbeat resend finish_after seconds most once plan
     (program, ports, heartbeats, resends, finishes, times, sizes, flags, says_port, says_heartbeat, says_resend, says_finish, says_time, says_size, says_once, spelt) range =
     let p : Says (codes "--port") None port_parser ports port = says_number MIN_MASTER_PORT MAX_PORT (omega arith) (codes "--port") None ports port says_port range.0 in
     let h : Says (codes "--heartbeat") usual_heartbeat heartbeat_parser heartbeats heartbeat =
@@ -434,5 +432,7 @@ said_master words port heartbeat resend finish_after seconds most once
       finish_after_has = has_optional (codes "finish-after") rows vf finish_after (t.3 ∙ read_plain vf f.plain) f.number;
       seconds_has = has_optional (codes "seconds") rows vs seconds (t.4 ∙ read_plain vs s.plain) s.number;
       most_has = has_number (one_of (codes "most") rows) (codes "--most") usual_size most_parser sizes most m (t.5 ∙ ap (value_or usual_size) (read_plain vm m.plain));
-      once_has = has_flag once rows t.6;
+      once_has = has_flag (codes "once") rows once t.6;
+      faults_has = subst (λ (l : Option (List Text)). AllZip NamesFault (unwrap_or l []) []) (sym t.7) tt;
+      random_has = t.8;
     }

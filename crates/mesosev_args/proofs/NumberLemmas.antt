@@ -7,7 +7,7 @@ use Rattle.std.specs.declared.num.ParseIntError.{ParseIntError}
 use Rattle.clap.specs.Words.{ReadsOne, Row, Text, one_of, one_text, rows_of}
 use Rattle.clap.specs.declared.parser.matches.Found.{Found}
 use Rattle.clap.proofs.WalkLemmas.{one_text-rows}
-use Rattle.mesosev_args.specs.NamedOptions.{HasNumber, Writes}
+use Rattle.mesosev_args.specs.OptionValues.{HasNumber, Writes}
 
 -- the contract of `u32::from_str`
 abbrev pub FromStr : Text → Result ℕ ParseIntError → Type 0

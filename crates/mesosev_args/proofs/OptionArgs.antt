@@ -1,11 +1,12 @@
 -- The arguments that set a flag or give an option of the command line its value, in clap's model.
-use Rattle.std.proofs.Common.{◌≡◌, ◌++◌, ◌≤◌, ◌==◌, ◌∙◌, ℕ, List, [], ◌∷◌, Option, Some, None, Bool, true, false, inl, inr, refl, sym, subst, arith}
+use Rattle.std.proofs.Common.{◌≡◌, ◌++◌, ◌≤◌, ◌==◌, ◌∙◌, ap, append-nil, ℕ, List, [], ◌∷◌, Option, Some, None, Bool, true, false, inl, inr, refl, sym, subst, arith}
 use Rattle.std.specs.Prelude.{IsSomeAnd, codes, option_map, pos}
 use Rattle.std.specs.Str.Parse.{IsNumeral, without_leading_plus}
 use Rattle.std.proofs.lemmas.Bool.{eqb-true, ne_eqb}
 use Rattle.std.proofs.lemmas.Int.{ints}
 use Rattle.std.proofs.lemmas.Str.Parse.{digit_from_value}
 use Rattle.clap.specs.Words.{Accepts, Row, Rule, Text, one_of}
+use Rattle.clap.specs.Faults.{use_fault}
 use Rattle.clap.specs.Kinds.{value_kinds}
 use Rattle.clap.specs.Lexer.{without_minus}
 use Rattle.clap.specs.Simple.{Shape, filled}
@@ -13,10 +14,11 @@ use Rattle.clap.specs.Walk.{arg_by_id, arg_by_long, used}
 use Rattle.clap.specs.declared.builder.value_parser.ValueParser.{ValueParser}
 use Rattle.clap.specs.declared.builder.value_parser.ValueParser.TheVariants as vp
 use Rattle.clap.proofs.KindLemmas.{value_kinds-ok}
-use Rattle.mesosev_args.specs.CommandLine.{chunked_rule, limit_rule}
-use Rattle.mesosev_args.specs.NamedOptions.{HasFraming, HasMost, HasOptional, IsLimit, IsMost, IsWithin, SayFraming, SayLimit, SayMost, SayNumber, SayOptional, SayText, SayUsually, Writes}
+use Rattle.mesosev_args.specs.CommandLine.{calls_rule, chunked_rule, limit_rule, lines_rule}
+use Rattle.mesosev_args.specs.NamedOptions.{SayFraming, SayInput, SayLimit, SayMost, SayNumber, SayOptional, SayText, SayUsually}
+use Rattle.mesosev_args.specs.OptionValues.{HasFlag, HasFraming, HasMost, HasOptional, IsLimit, IsMost, IsWithin, Writes}
 use Rattle.mes_stream.specs.declared.stream_reader.Framing.{Framing}
-use Rattle.mes_stream.specs.declared.stream_reader.Framing.TheVariants.{Plain, Chunked}
+use Rattle.mes_stream.specs.declared.stream_reader.Framing.TheVariants.{Plain, Chunked, Lines}
 use Rattle.mes_frame.specs.declared.limits.TheConstants.{MIN_CHUNK, MAX_CHUNK, MIN_RECORD_LIMIT, MAX_RECORD_LIMIT}
 use Rattle.mesosev_args.specs.declared.args.TheConstants.{DEFAULT_LIMIT}
 use Rattle.mesosev_args.proofs.Walks.{Given, IsFlag, IsNoFlag, IsOption, IsUsable, Reaches, reaches_option, absent, apart, given_value, given_words, joined, reaches_flag, reaches_start, used_value}
@@ -160,36 +162,106 @@ pub has_optional : (option : Text) (rows : List Row) (held : Option Text) (n : O
 has_optional option rows held None is number = is ∙ number
 has_optional option rows held (Some n) is number = subst (λ h. IsSomeAnd h (λ text. Writes text n)) (sym is) number
 
--- ---- `--chunked`
+-- ---- a flag
 
-abbrev pub flag_words : Framing → List Text
+-- the text of a flag in the matches
+abbrev pub set_text : Bool → Option Text
+set_text false = Some (codes "false")
+set_text true = Some (codes "true")
+
+pub has_flag : (name : Text) (rows : List Row) (is_set : Bool) → one_of name rows ≡ set_text is_set → HasFlag name rows is_set
+has_flag name rows false is = λ set. let other : Some (codes "false") ≡ Some (codes "true") = sym is ∙ set in absurd (cc)
+has_flag name rows true is = is
+
+-- ---- `--chunked`, `--lines` and `--calls`
+
+abbrev flag_words : Framing → List Text
 flag_words Plain = []
 flag_words Chunked = codes "--chunked" ∷ []
+flag_words Lines = codes "--lines" ∷ []
 
-abbrev pub flag_text : Framing → Option Text
-flag_text Plain = Some (codes "false")
-flag_text Chunked = Some (codes "true")
+-- whether `--chunked` is set for this framing, and whether `--lines` is
+abbrev pub is_chunked : Framing → Bool
+is_chunked Plain = false
+is_chunked Chunked = true
+is_chunked Lines = false
 
-abbrev pub rows_flag : Framing → List Row
+abbrev pub is_lines : Framing → Bool
+is_lines Plain = false
+is_lines Chunked = false
+is_lines Lines = true
+
+abbrev rows_flag : Framing → List Row
 rows_flag Plain = []
 rows_flag Chunked = used (filled chunked_rule) [] []
+rows_flag Lines = used (filled lines_rule) [] []
 
-pub flag_is : (framing : Framing) (words : List Text) → SayFraming words framing → words ≡ flag_words framing
+flag_is : (framing : Framing) (words : List Text) → SayFraming words framing → words ≡ flag_words framing
 flag_is Plain words is = is
 flag_is Chunked words is = is
+flag_is Lines words is = is
 
-pub chunked_is : (c : List Rule) → arg_by_long c (codes "chunked") ≡ Some (filled chunked_rule) → IsFlag c (filled chunked_rule) (codes "--chunked") (codes "chunked")
-chunked_is c by_long = record { dashes = refl; long = refl; by_long = by_long; takes = refl }
+-- the flag of the framing, then `--calls`
+abbrev pub input_words : Framing → Bool → List Text
+input_words framing false = flag_words framing
+input_words framing true = flag_words framing ++ codes "--calls" ∷ []
 
--- the arguments begin with the flag `--chunked`, or without it
-pub reaches_framing : (s : Shape) → IsFlag s.rules (filled chunked_rule) (codes "--chunked") (codes "chunked") → (framing : Framing)
-    → Reaches s (flag_words framing) (rows_flag framing)
-reaches_framing s is Plain = reaches_start s
-reaches_framing s is Chunked = reaches_flag s (filled chunked_rule) (codes "--chunked") (codes "chunked") is [] [] (reaches_start s) refl
+-- the rows of the matches after these flags
+abbrev pub rows_input : Framing → Bool → List Row
+rows_input framing false = rows_flag framing
+rows_input framing true = used (filled calls_rule) [] (rows_flag framing)
 
-pub has_framing : (framing : Framing) (rows : List Row) → one_of (codes "chunked") rows ≡ flag_text framing → HasFraming rows framing
-has_framing Plain rows is = λ set. let other : Some (codes "false") ≡ Some (codes "true") = sym is ∙ set in absurd (cc)
-has_framing Chunked rows is = is
+pub input_is : (framing : Framing) (calls : Bool) (words : List Text) → SayInput words framing calls → words ≡ input_words framing calls
+input_is framing false words (flags, kinds, flag, none, is) =
+    is ∙ ap (λ (k : List Text). flags ++ k) none ∙ append-nil flags ∙ flag_is framing flags flag
+input_is framing true words (flags, kinds, flag, one, is) =
+    is ∙ ap (λ (k : List Text). flags ++ k) one ∙ ap (λ (f : List Text). f ++ codes "--calls" ∷ []) (flag_is framing flags flag)
+
+-- the rules of a subcommand's arguments have these flags
+pub record HasFlags (c : List Rule) : Type 0 where
+  pub chunked : IsFlag c (filled chunked_rule) (codes "--chunked") (codes "chunked")
+  pub lines : IsFlag c (filled lines_rule) (codes "--lines") (codes "lines")
+  pub calls : IsFlag c (filled calls_rule) (codes "--calls") (codes "calls")
+
+pub flags_are : (c : List Rule) → arg_by_long c (codes "chunked") ≡ Some (filled chunked_rule) → arg_by_long c (codes "lines") ≡ Some (filled lines_rule)
+    → arg_by_long c (codes "calls") ≡ Some (filled calls_rule) → HasFlags c
+flags_are c chunked lines calls = record {
+  chunked = record { dashes = refl; long = refl; by_long = chunked; takes = refl };
+  lines = record { dashes = refl; long = refl; by_long = lines; takes = refl };
+  calls = record { dashes = refl; long = refl; by_long = calls; takes = refl };
+}
+
+-- the arguments begin with `--chunked` or `--lines`, or with neither
+reaches_framing : (s : Shape) → HasFlags s.rules → (framing : Framing) → Reaches s (flag_words framing) (rows_flag framing)
+reaches_framing s have Plain = reaches_start s
+reaches_framing s have Chunked = reaches_flag s (filled chunked_rule) (codes "--chunked") (codes "chunked") have.chunked [] [] (reaches_start s) refl
+reaches_framing s have Lines = reaches_flag s (filled lines_rule) (codes "--lines") (codes "lines") have.lines [] [] (reaches_start s) refl
+
+-- `--calls` may follow the flag of the framing
+calls_usable : (again : Bool) (framing : Framing) → use_fault again (filled calls_rule) [] (rows_flag framing) ≡ []
+calls_usable false Plain = refl
+calls_usable false Chunked = refl
+calls_usable false Lines = refl
+calls_usable true Plain = refl
+calls_usable true Chunked = refl
+calls_usable true Lines = refl
+
+pub reaches_input : (s : Shape) → HasFlags s.rules → (framing : Framing) (calls : Bool) → Reaches s (input_words framing calls) (rows_input framing calls)
+reaches_input s have framing false = reaches_framing s have framing
+reaches_input s have framing true =
+    reaches_flag s (filled calls_rule) (codes "--calls") (codes "calls") have.calls (flag_words framing) (rows_flag framing) (reaches_framing s have framing)
+    (calls_usable s.args_override_self framing)
+
+-- the texts of these flags in the matches
+abbrev pub HasFlagTexts : List Row → Framing → Bool → Type 0
+HasFlagTexts rows framing calls =
+    (one_of (codes "chunked") rows ≡ set_text (is_chunked framing)) × (one_of (codes "lines") rows ≡ set_text (is_lines framing))
+    × (one_of (codes "calls") rows ≡ set_text calls)
+
+pub has_framing : (framing : Framing) (calls : Bool) (rows : List Row) → HasFlagTexts rows framing calls → HasFraming rows framing
+has_framing Plain calls rows is = (has_flag (codes "chunked") rows false is.0, has_flag (codes "lines") rows false is.1)
+has_framing Chunked calls rows is = (has_flag (codes "chunked") rows true is.0, has_flag (codes "lines") rows false is.1)
+has_framing Lines calls rows is = (has_flag (codes "chunked") rows false is.0, has_flag (codes "lines") rows true is.1)
 
 -- ---- `--limit`
 
@@ -204,14 +276,18 @@ pub limit_is : (c : List Rule) → arg_by_long c (codes "limit") ≡ Some (fille
 limit_is c by_long by_id =
     record { dashes = refl; long = refl; dashes_joined = λ v. refl; long_joined = λ v. refl; by_long = by_long; by_id = by_id; same = refl; takes = refl; one = refl }
 
--- the rows of the matches after `--chunked` and `--limit`
-abbrev pub rows_limit : Framing → Option Text → List Row
-rows_limit framing v = used_value (filled limit_rule) v (rows_flag framing)
+-- the rows of the matches after the flags and `--limit`
+abbrev pub rows_limit : Framing → Bool → Option Text → List Row
+rows_limit framing calls v = used_value (filled limit_rule) v (rows_input framing calls)
 
-pub limit_usable : (framing : Framing) (v : Option Text) → Fits limit_parser v → IsUsable false (filled limit_rule) v (rows_flag framing)
-limit_usable framing None fits = tt
-limit_usable Plain (Some v) fits = simp fits refl
-limit_usable Chunked (Some v) fits = simp fits refl
+pub limit_usable : (framing : Framing) (calls : Bool) (v : Option Text) → Fits limit_parser v → IsUsable false (filled limit_rule) v (rows_input framing calls)
+limit_usable framing calls None fits = tt
+limit_usable Plain false (Some v) fits = simp fits refl
+limit_usable Plain true (Some v) fits = simp fits refl
+limit_usable Chunked false (Some v) fits = simp fits refl
+limit_usable Chunked true (Some v) fits = simp fits refl
+limit_usable Lines false (Some v) fits = simp fits refl
+limit_usable Lines true (Some v) fits = simp fits refl
 
 -- the arguments that give `--limit` this number, or leave out the option for the default
 abbrev pub SaysLimit : List Text → ℕ → Type 0

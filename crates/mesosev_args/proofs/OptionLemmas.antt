@@ -7,7 +7,7 @@ use Rattle.std.specs.declared.num.ParseIntError.{ParseIntError}
 use Rattle.clap.specs.Words.{ReadsOne, TriesOne, Text, one_of, one_text, rows_of}
 use Rattle.clap.specs.declared.parser.matches.Found.{Found}
 use Rattle.clap.proofs.WalkLemmas.{one_text-rows}
-use Rattle.mesosev_args.specs.NamedOptions.{HasFlag, HasMost, HasOptional, IsMost, IsWithin}
+use Rattle.mesosev_args.specs.OptionValues.{HasFlag, HasMost, HasOptional, IsMost, IsWithin}
 use Rattle.mesosev_args.proofs.NumberLemmas.{FromStr, IsWritten, written_once}
 use Rattle.mes_frame.specs.declared.limits.TheConstants.{MIN_CHUNK, MAX_CHUNK}
 

@@ -9,10 +9,10 @@ use Rattle.clap.specs.declared.parser.matches.ArgMatches.{ArgMatches}
 use Rattle.clap.specs.declared.parser.matches.ArgMatches.TheViews.{out-ArgMatches, out-SubCommand}
 use Rattle.clap.specs.declared.parser.matches.SubCommand.{SubCommand}
 use Rattle.mesosev_args.specs.CommandLine.{command_app}
-use Rattle.mesosev_args.specs.NamedOptions.{IsReadAs, IsUnknown, LackValue, LacksValue, NameOptions, Reads, RefusesArgs}
+use Rattle.mesosev_args.specs.NamedOptions.{GivesBoth, IsReadAs, IsUnknown, LackValue, LacksValue, NameOptions, Reads, RefusesArgs}
 use Rattle.mesosev_args.specs.declared.args.Options.{Options}
 use Rattle.mesosev_args.specs.declared.args.WordsFault.{WordsFault}
-use Rattle.mesosev_args.specs.declared.args.WordsFault.TheVariants.{Clap, BadValue, NoMemory}
+use Rattle.mesosev_args.specs.declared.args.WordsFault.TheVariants.{Clap, BadValue, Conflict, NoMemory}
 
 module _ {Z : Type 0} where
   both_of : (met : Option (Box SubCommand Z)) (name : Text) (rows : List Row) → Some name ≡ option_map (λ b. (out-SubCommand (box_value b)).name.now) met
@@ -39,4 +39,9 @@ module _ (words : List Text) (read : Text × List Row) (is : subcommand_of comma
     where
       lacking : LacksValue read option.now ⊎ IsUnknown read.0 option.now → LackValue words option.now
       lacking lacks = inl (subst (λ met. IsSomeAnd met (λ m. LacksValue m option.now ⊎ IsUnknown m.0 option.now)) (sym is) lacks)
+  read_refused (Err (Conflict option other)) reads taken = (
+    taken,
+    λ h. reads.1 (h.0, subst (λ met. IsSomeAnd met (λ m. IsReadAs m h.0)) is h.1, h.2),
+    subst (λ met. IsSomeAnd met (λ m. GivesBoth m option.now other.now)) (sym is) reads.0,
+  )
   read_refused (Err NoMemory) reads taken = tt

@@ -7,9 +7,10 @@ use Rattle.clap.specs.Simple.{Shape, built, filled, filled_from, help_rule, vers
 use Rattle.clap.specs.Walk.{with_default}
 use Rattle.clap.proofs.OnLiterals.{clap_on_literals}
 use Rattle.mesosev_args.specs.CommandLine.{command_app, json_rule, limit_rule}
-use Rattle.mesosev_args.specs.NamedOptions.{HasFlag, HasLimit, IsLimit, SayReplay}
-use Rattle.mesosev_args.proofs.JsonFlag.{has_json, json_is, json_said, json_text, json_words, reaches_json, rows_json}
-use Rattle.mesosev_args.proofs.OptionArgs.{Fits, SaysLimit, has_number, limit_is, limit_parser, read_plain, read_value, says_limit, usual_limit, value_or}
+use Rattle.mesosev_args.specs.NamedOptions.{SayReplay}
+use Rattle.mesosev_args.specs.OptionValues.{HasFlag, HasLimit, IsLimit}
+use Rattle.mesosev_args.proofs.JsonFlag.{json_is, json_said, json_words, reaches_json, rows_json}
+use Rattle.mesosev_args.proofs.OptionArgs.{Fits, SaysLimit, has_flag, has_number, limit_is, limit_parser, read_plain, read_value, says_limit, set_text, usual_limit, value_or}
 use Rattle.mesosev_args.proofs.Subcommands.{IsSubcommand, leaf_shape}
 use Rattle.mesosev_args.proofs.ParsedArgs.{Takes, takes_words}
 use Rattle.mesosev_args.proofs.Walks.{IsUsable, Reaches, end_fault, given_value, given_words, reaches_option, reaches_start, used_value}
@@ -38,7 +39,7 @@ usable : (v : Option Text) → Fits limit_parser v → IsUsable false (filled li
 usable None fits = tt
 usable (Some v) fits = simp fits refl
 
-texts : (v : Option Text) (json : Bool) → (one_of (codes "limit") (rows_end v json) ≡ value_or usual_limit (read_value v)) × (one_of (codes "json") (rows_end v json) ≡ json_text json)
+texts : (v : Option Text) (json : Bool) → (one_of (codes "limit") (rows_end v json) ≡ value_or usual_limit (read_value v)) × (one_of (codes "json") (rows_end v json) ≡ set_text json)
 texts None false = (refl, refl)
 texts None true = (refl, refl)
 texts (Some v) false = (refl, refl)
@@ -83,5 +84,5 @@ said_replay words limit json (program, limits, lines, says, line, spelt) range =
       takes = subst (λ (w : List Text). Takes w (codes "replay") rows) (sym same)
           (takes_words program (codes "replay") shape replay_is (front ++ back) (rows_said v json) reaches (good_end v json));
       limit_has = has_number (one_of (codes "limit") rows) (codes "--limit") usual_limit limit_parser limits limit s (t.0 ∙ ap (value_or usual_limit) (read_plain v s.plain));
-      json_has = has_json json rows t.1;
+      json_has = has_flag (codes "json") rows json t.1;
     }

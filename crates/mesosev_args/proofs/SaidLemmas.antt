@@ -6,10 +6,12 @@ use Rattle.clap.specs.Words.{IsAmong, Row, Text, fault_of, kind_of, subcommand_o
 use Rattle.clap.specs.Simple.{built}
 use Rattle.mesosev_args.specs.CommandLine.{command_app}
 use Rattle.mesosev_args.specs.NamedOptions.{IsInRange, IsReadAs, NameOptions, RefusesArgs, SayPlainly}
+use Rattle.mesosev_args.specs.OptionValues.{HasFaults, HasRandom}
+use Rattle.mes_double_faults.specs.Plans.{Plan}
 use Rattle.mesosev_args.specs.declared.args.Options.{Options}
 use Rattle.mesosev_args.specs.declared.args.Options.TheVariants.{Check, Show, Convert, Replay, Relog, Serve, Master, Subscribe, Loopback}
 use Rattle.mesosev_args.specs.declared.args.WordsFault.{WordsFault}
-use Rattle.mesosev_args.specs.declared.args.WordsFault.TheVariants.{Clap, BadValue, NoMemory}
+use Rattle.mesosev_args.specs.declared.args.WordsFault.TheVariants.{Clap, BadValue, Conflict, NoMemory}
 use Rattle.mesosev_args.proofs.ConvertArgs.{said_convert}
 use Rattle.mesosev_args.proofs.LogArgs.{log_shape, said_log}
 use Rattle.mesosev_args.proofs.LoopbackArgs.{said_loopback}
@@ -38,15 +40,15 @@ names : (words : List Text) (name : Text) (rows : List Row) (o : Options) → Ta
 names words name rows o takes read = record { named = subst (λ met. IsSomeAnd met (λ r. IsReadAs r o)) (sym takes.named) read; taken = takes.taken }
 
 plain_names : (words : List Text) (o : Options) → SayPlainly words o → IsInRange o → Names words o
-plain_names words (Check framing limit) says range =
-    let s = said_reading (codes "check") check_is words framing limit says range in
-    names words (codes "check") s.rows (Check framing limit) s.takes (refl, s.framing_has, s.limit_has)
-plain_names words (Show framing limit json) says range =
-    let s = said_show words framing limit json says range in
-    names words (codes "show") s.rows (Show framing limit json) s.takes (refl, s.framing_has, s.limit_has, s.json_has)
-plain_names words (Convert framing limit format) says range =
-    let s = said_convert words framing limit format says range.0 range.1 in
-    names words (codes "convert") s.rows (Convert framing limit format) s.takes (refl, s.framing_has, s.limit_has, s.most_has, s.json_has)
+plain_names words (Check framing limit calls) says range =
+    let s = said_reading (codes "check") check_is words framing limit calls says range in
+    names words (codes "check") s.rows (Check framing limit calls) s.takes (refl, s.framing_has, s.limit_has, s.calls_has)
+plain_names words (Show framing limit json calls) says range =
+    let s = said_show words framing limit json calls says range in
+    names words (codes "show") s.rows (Show framing limit json calls) s.takes (refl, s.framing_has, s.limit_has, s.json_has, s.calls_has)
+plain_names words (Convert framing limit format calls) says range =
+    let s = said_convert words framing limit format calls says range.0 range.1 in
+    names words (codes "convert") s.rows (Convert framing limit format calls) s.takes (refl, s.framing_has, s.limit_has, s.most_has, s.json_has, s.calls_has)
 plain_names words (Replay limit json) says range =
     let s = said_replay words limit json says range in names words (codes "replay") s.rows (Replay limit json) s.takes (refl, s.limit_has, s.json_has)
 plain_names words (Relog limit) says range =
@@ -54,10 +56,12 @@ plain_names words (Relog limit) says range =
 plain_names words (Serve port count stream) says range =
     let s = said_serve words port count stream says range.0 range.1 in
     names words (codes "serve") s.rows (Serve port count stream) s.takes (refl, s.port_has, s.count_has, s.stream_has)
-plain_names words (Master port heartbeat resend finish_after seconds most once) says range =
-    let s = said_master words port heartbeat resend finish_after seconds most once says range in
-    names words (codes "master") s.rows (Master port heartbeat resend finish_after seconds most once) s.takes
-    (refl, s.port_has, s.heartbeat_has, s.resend_has, s.finish_after_has, s.seconds_has, s.most_has, s.once_has)
+plain_names words (Master port heartbeat resend finish_after seconds most once plan) (says, none) range =
+    let s = said_master words port heartbeat resend finish_after seconds most once plan says range in
+    let faults = subst (λ (l : Plan). HasFaults s.rows l.faults) (sym none) s.faults_has in
+    let random = subst (λ (l : Plan). HasRandom s.rows l.random) (sym none) s.random_has in
+    names words (codes "master") s.rows (Master port heartbeat resend finish_after seconds most once plan) s.takes
+    (refl, s.port_has, s.heartbeat_has, s.resend_has, s.finish_after_has, s.seconds_has, s.most_has, s.once_has, faults, random)
 plain_names words (Subscribe to user name reads json) says range =
     let s = said_subscribe words to user name reads json says range.1 in
     names words (codes "subscribe") s.rows (Subscribe to user name reads json) s.takes (refl, s.to_has, s.user_has, s.name_has, s.reads_has, s.json_has)
@@ -72,5 +76,7 @@ plain_answer words (Ok o) named refused said plainly range =
 plain_answer words (Err (Clap error)) named refused said plainly range =
     absurd (subst (IsAmong (kind_of error)) (plain_names words said plainly range).taken refused)
 plain_answer words (Err (BadValue option)) named refused said plainly range =
+    absurd (refused.1 (said, (plain_names words said plainly range).named, range))
+plain_answer words (Err (Conflict option other)) named refused said plainly range =
     absurd (refused.1 (said, (plain_names words said plainly range).named, range))
 plain_answer words (Err NoMemory) named refused said plainly range = refl

@@ -8,7 +8,8 @@ use Rattle.clap.specs.declared.builder.value_parser.ValueParser.TheVariants as v
 use Rattle.clap.proofs.OnLiterals.{clap_on_literals}
 use Rattle.uuid.specs.Text.{parsed}
 use Rattle.mesosev_args.specs.CommandLine.{command_app, count_rule, port_rule, stream_rule}
-use Rattle.mesosev_args.specs.NamedOptions.{HasNumber, HasStream, IsCount, IsPort, SayServe, SayStream}
+use Rattle.mesosev_args.specs.NamedOptions.{SayServe, SayStream}
+use Rattle.mesosev_args.specs.OptionValues.{HasNumber, HasStream, IsCount, IsPort}
 use Rattle.mesosev_args.specs.declared.args.TheConstants.{MIN_CONNECTIONS, MAX_CONNECTIONS, MIN_PORT, MAX_PORT, DEFAULT_STREAM}
 use Rattle.mesosev_args.proofs.OptionArgs.{Fits, Gives, Says, given_number, gives_number, gives_text, number_parser, reaches_given, read_value, says_number, value_or}
 use Rattle.mesosev_args.proofs.Subcommands.{IsSubcommand, leaf_shape}

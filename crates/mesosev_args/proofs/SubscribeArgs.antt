@@ -8,10 +8,11 @@ use Rattle.clap.specs.Walk.{used, with_default}
 use Rattle.clap.specs.declared.builder.value_parser.ValueParser.TheVariants as vp
 use Rattle.clap.proofs.OnLiterals.{clap_on_literals}
 use Rattle.mesosev_args.specs.CommandLine.{command_app, json_rule, name_rule, reads_rule, to_rule, user_rule}
-use Rattle.mesosev_args.specs.NamedOptions.{HasFlag, HasNumber, HasText, IsReads, SaySubscribe}
+use Rattle.mesosev_args.specs.NamedOptions.{SaySubscribe}
+use Rattle.mesosev_args.specs.OptionValues.{HasFlag, HasNumber, HasText, IsReads}
 use Rattle.mesosev_args.specs.declared.args.TheConstants.{DEFAULT_SUBSCRIBE_READS, MAX_SUBSCRIBE_READS, MIN_SUBSCRIBE_READS}
-use Rattle.mesosev_args.proofs.JsonFlag.{has_json, json_is, json_said, json_text, json_words, reaches_json, rows_json}
-use Rattle.mesosev_args.proofs.OptionArgs.{Fits, Gives, Says, gives_text, has_number, number_parser, reaches_given, read_plain, read_value, says_usually, value_or}
+use Rattle.mesosev_args.proofs.JsonFlag.{json_is, json_said, json_words, reaches_json, rows_json}
+use Rattle.mesosev_args.proofs.OptionArgs.{Fits, Gives, Says, gives_text, has_flag, has_number, number_parser, reaches_given, read_plain, read_value, says_usually, set_text, value_or}
 use Rattle.mesosev_args.proofs.Subcommands.{IsSubcommand, leaf_shape}
 use Rattle.mesosev_args.proofs.ParsedArgs.{Takes, takes_words}
 use Rattle.mesosev_args.proofs.Walks.{IsOption, IsUsable, Reaches, end_fault, given_value, given_words, reaches_option, reaches_start, used_value}
@@ -72,7 +73,7 @@ json_usable a u n (Some v) = refl
 
 abbrev HasTexts : List Row → Text → Text → Text → Option Text → Bool → Type 0
 HasTexts rows a u n v json = (first_of (codes "to") rows ≡ Some a) × (first_of (codes "user") rows ≡ Some u) × (first_of (codes "name") rows ≡ Some n)
-    × (one_of (codes "reads") rows ≡ value_or usual (read_value v)) × (one_of (codes "json") rows ≡ json_text json)
+    × (one_of (codes "reads") rows ≡ value_or usual (read_value v)) × (one_of (codes "json") rows ≡ set_text json)
 
 texts : (a u n : Text) (v : Option Text) (json : Bool) → HasTexts (rows_end a u n v json) a u n v json
 texts a u n None false = (refl, refl, refl, refl, refl)
@@ -139,5 +140,5 @@ said_subscribe words to user name reads json (program, tos, users, names, number
       name_has = t.2;
       reads_has = has_number (one_of (codes "reads") rows) (codes "--reads") usual (number_parser MIN_SUBSCRIBE_READS MAX_SUBSCRIBE_READS) numbers reads s
           (t.3 ∙ ap (value_or usual) (read_plain v s.plain));
-      json_has = has_json json rows t.4;
+      json_has = has_flag (codes "json") rows json t.4;
     }

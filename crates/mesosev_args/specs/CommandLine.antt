@@ -2,14 +2,15 @@
 use Rattle.std.specs.Prelude.{◌≡◌, ℕ, List, [], ◌∷◌, Some, pos, true, false, codes, fold}
 use Rattle.clap.specs.Words.{App, Rule, Text, app_of, new_app, new_rule, with_rule, with_subcommand}
 use Rattle.clap.specs.Simple.{on_top}
-use Rattle.clap.specs.declared.builder.action.ArgAction.TheVariants.{SetTrue}
+use Rattle.clap.specs.declared.builder.action.ArgAction.TheVariants.{Append, SetTrue}
 use Rattle.clap.specs.declared.builder.command.Command.{Command}
 use Rattle.clap.specs.declared.builder.command.Command.TheViews.{out-Command}
 use Rattle.clap.specs.declared.builder.value_parser.ValueParser.TheVariants as vp
 use Rattle.mesosev_args.specs.declared.args.TheConstants.{DEFAULT_LIMIT, DEFAULT_LOOPBACK_CHUNK, DEFAULT_SUBSCRIBE_READS, DEFAULT_STREAM}
 use Rattle.mesosev_args.specs.declared.args.TheConstants.{MIN_CONNECTIONS, MAX_CONNECTIONS, MIN_PORT, MAX_PORT, MIN_SUBSCRIBE_READS, MAX_SUBSCRIBE_READS}
 use Rattle.mesosev_args.specs.declared.args.TheConstants.{MIN_MASTER_PORT, MAX_SECONDS, MIN_HEARTBEAT, MIN_RESEND, MIN_FINISH_AFTER, MIN_SECONDS}
-use Rattle.mesosev_args.specs.declared.args.TheConstants.{DEFAULT_HEARTBEAT, DEFAULT_MASTER_CHUNK, DEFAULT_RESEND}
+use Rattle.mesosev_args.specs.declared.args.TheConstants.{DEFAULT_HEARTBEAT, DEFAULT_MASTER_CHUNK, DEFAULT_RESEND, DEFAULT_SEED}
+use Rattle.mesosev_args.specs.declared.args.TheConstants.{MIN_RATE, MAX_RATE, MIN_SEED, MAX_SEED}
 use Rattle.mes_frame.specs.declared.limits.TheConstants.{MIN_CHUNK, MAX_CHUNK, MIN_RECORD_LIMIT, MAX_RECORD_LIMIT}
 
 -- the Rust command `c` is `app` in clap's model, and shares no argument with its subcommands
@@ -19,6 +20,14 @@ IsCommand app c = (app_of c ≡ app) × ((out-Command c).has_globals ≡ false)
 -- the flag `--chunked`
 abbrev pub chunked_rule : Rule
 chunked_rule = record (new_rule (codes "chunked")) { long = Some (codes "chunked"); action = Some SetTrue }
+
+-- the flag `--lines`
+abbrev pub lines_rule : Rule
+lines_rule = record (new_rule (codes "lines")) { long = Some (codes "lines"); action = Some SetTrue }
+
+-- the flag `--calls`
+abbrev pub calls_rule : Rule
+calls_rule = record (new_rule (codes "calls")) { long = Some (codes "calls"); action = Some SetTrue }
 
 -- the flag `--json`
 abbrev pub json_rule : Rule
@@ -89,6 +98,17 @@ seconds_rule = number_rule (codes "seconds") MIN_SECONDS MAX_SECONDS
 abbrev pub chunk_rule : Rule
 chunk_rule = usually DEFAULT_MASTER_CHUNK.now most_rule
 
+-- `--fault F`, any number of times
+abbrev pub fault_rule : Rule
+fault_rule = record (text_rule (codes "fault")) { action = Some Append }
+
+-- `--faults R`, `--seed N`: numbers in their ranges, the second with a default
+abbrev pub faults_rule : Rule
+faults_rule = number_rule (codes "faults") MIN_RATE MAX_RATE
+
+abbrev pub seed_rule : Rule
+seed_rule = usually DEFAULT_SEED.now (number_rule (codes "seed") MIN_SEED MAX_SEED)
+
 -- `--to ADDR`, `--user U`, `--name N`
 abbrev pub to_rule : Rule
 to_rule = wanted (text_rule (codes "to"))
@@ -103,19 +123,19 @@ name_rule = wanted (text_rule (codes "name"))
 abbrev pub reads_rule : Rule
 reads_rule = usually DEFAULT_SUBSCRIBE_READS.now (number_rule (codes "reads") MIN_SUBSCRIBE_READS MAX_SUBSCRIBE_READS)
 
--- `NAME [--chunked] [--limit N]`: a subcommand that reads a stream
+-- `NAME [--chunked] [--lines] [--calls] [--limit N]`: a subcommand that reads a stream
 abbrev pub reading_app : Text → App
-reading_app name = with_rule (with_rule (new_app name) chunked_rule) limit_rule
+reading_app name = with_rule (with_rule (with_rule (with_rule (new_app name) chunked_rule) lines_rule) calls_rule) limit_rule
 
--- `check [--chunked] [--limit N]`
+-- `check [--chunked] [--lines] [--calls] [--limit N]`
 abbrev pub check_app : App
 check_app = reading_app (codes "check")
 
--- `show [--chunked] [--limit N] [--json]`
+-- `show [--chunked] [--lines] [--calls] [--limit N] [--json]`
 abbrev pub show_app : App
 show_app = with_rule (reading_app (codes "show")) json_rule
 
--- `convert [--chunked] [--limit N] [--most M] [--json]`
+-- `convert [--chunked] [--lines] [--calls] [--limit N] [--most M] [--json]`
 abbrev pub convert_app : App
 convert_app = with_rule (with_rule (reading_app (codes "convert")) most_rule) json_rule
 
@@ -131,9 +151,12 @@ relog_app = with_rule (new_app (codes "relog")) limit_rule
 abbrev pub serve_app : App
 serve_app = with_rule (with_rule (with_rule (new_app (codes "serve")) port_rule) count_rule) stream_rule
 
--- `master --port P [--heartbeat S] [--resend S] [--finish-after S] [--seconds S] [--most M] [--once]`
+-- `master --port P [--heartbeat S] [--resend S] [--finish-after S] [--seconds S] [--most M]
+-- [--fault F].. [--faults R] [--seed N] [--once]`
 abbrev pub master_app : App
-master_app = fold with_rule (new_app (codes "master")) (master_port_rule ∷ heartbeat_rule ∷ resend_rule ∷ finish_after_rule ∷ seconds_rule ∷ chunk_rule ∷ once_rule ∷ [])
+master_app = fold with_rule (new_app (codes "master"))
+    (master_port_rule ∷ heartbeat_rule ∷ resend_rule ∷ finish_after_rule ∷ seconds_rule ∷ chunk_rule
+    ∷ fault_rule ∷ faults_rule ∷ seed_rule ∷ once_rule ∷ [])
 
 -- `subscribe --to ADDR --user U --name N [--reads R] [--json]`
 abbrev pub subscribe_app : App

@@ -1,7 +1,6 @@
 -- The options that the arguments name, and when arguments are rejected.
 use Rattle.std.specs.Prelude.{◌≡◌, ◌≢◌, ◌≤◌, ◌==◌, ◌⊎◌, ◌++◌, ℕ, Bool, true, false, List, [], ◌∷◌, Option, Some, None, Result, Ok, Err, IsSomeAnd, codes}
 use Rattle.std.specs.Str.{bytes_eq}
-use Rattle.std.specs.Str.Parse.{IsNumeral, digits_value, without_leading_plus}
 use Rattle.std.specs.List.{list_any}
 use Rattle.clap.specs.Words.{Text, Row, IsAmong, fault_of, first_of, kind_of, one_of, subcommand_of}
 use Rattle.uuid.specs.Text.{parsed}
@@ -9,56 +8,21 @@ use Rattle.mes_double_http.specs.Hosts.{IsHost}
 use Rattle.clap.specs.declared.error.Error.{Error}
 use Rattle.clap.specs.declared.error.kind.ErrorKind.TheVariants.{OutOfMemory}
 use Rattle.mesosev_args.specs.CommandLine.{command_app}
+use Rattle.mesosev_args.specs.OptionValues.{HasFaults, HasFlag, HasFraming, HasLimit, HasMost, HasNumber, HasOptional, HasRandom, HasStream, HasText, Writes}
+use Rattle.mesosev_args.specs.OptionValues.{IsCount, IsFinishAfter, IsHeartbeat, IsLimit, IsMasterPort, IsMost, IsPlan, IsPort, IsRate, IsReads}
+use Rattle.mesosev_args.specs.OptionValues.{IsResend, IsSeconds, IsSeed, IsWithin}
+use Rattle.mes_double_faults.specs.Plans.{Plan}
+use Rattle.mes_double_faults.specs.declared.fault.Fault.{Fault}
 use Rattle.mes_stream.specs.declared.stream_reader.Framing.{Framing}
-use Rattle.mes_stream.specs.declared.stream_reader.Framing.TheVariants.{Plain, Chunked}
+use Rattle.mes_stream.specs.declared.stream_reader.Framing.TheVariants.{Plain, Chunked, Lines}
 use Rattle.mesosev_args.specs.declared.args.Options.{Options}
 use Rattle.mesosev_args.specs.declared.args.Options.TheVariants.{Check, Show, Convert, Replay, Relog, Serve, Master, Subscribe, Loopback}
 use Rattle.mesosev_args.specs.declared.args.WordsFault.{WordsFault}
-use Rattle.mesosev_args.specs.declared.args.WordsFault.TheVariants.{Clap, BadValue, NoMemory}
+use Rattle.mesosev_args.specs.declared.args.WordsFault.TheVariants.{Clap, BadValue, Conflict, NoMemory}
 use Rattle.mesosev_args.specs.declared.args.TheConstants.{DEFAULT_LIMIT, DEFAULT_LOOPBACK_CHUNK, DEFAULT_SUBSCRIBE_READS, DEFAULT_STREAM}
-use Rattle.mesosev_args.specs.declared.args.TheConstants.{MIN_CONNECTIONS, MAX_CONNECTIONS, MIN_PORT, MAX_PORT, MIN_SUBSCRIBE_READS, MAX_SUBSCRIBE_READS}
-use Rattle.mesosev_args.specs.declared.args.TheConstants.{MIN_MASTER_PORT, MAX_SECONDS, MIN_HEARTBEAT, MIN_RESEND, MIN_FINISH_AFTER, MIN_SECONDS}
 use Rattle.mesosev_args.specs.declared.args.TheConstants.{DEFAULT_HEARTBEAT, DEFAULT_MASTER_CHUNK, DEFAULT_RESEND}
-use Rattle.mes_frame.specs.declared.limits.TheConstants.{MIN_CHUNK, MAX_CHUNK, MIN_RECORD_LIMIT, MAX_RECORD_LIMIT}
 use Rattle.mesosev_stream.specs.declared.conversion.OutputFormat.{OutputFormat}
 use Rattle.mesosev_stream.specs.declared.conversion.OutputFormat.TheVariants as form
-
--- the text is the number in decimal digits, with or without a leading `+`
-abbrev pub Writes : Text → ℕ → Type 0
-Writes text n = IsNumeral 10 (without_leading_plus text)
-    × (digits_value 10 (without_leading_plus text) ≡ n)
-
--- the flag `--chunked` is set in a subcommand's matches exactly if the framing is chunked
-abbrev pub HasFraming : List Row → Framing → Type 0
-HasFraming rows Plain = one_of (codes "chunked") rows ≢ Some (codes "true")
-HasFraming rows Chunked = one_of (codes "chunked") rows ≡ Some (codes "true")
-
--- the flag of this name is set in a subcommand's matches exactly if this is true
-abbrev pub HasFlag : Text → List Row → Bool → Type 0
-HasFlag flag rows false = one_of flag rows ≢ Some (codes "true")
-HasFlag flag rows true = one_of flag rows ≡ Some (codes "true")
-
--- the option of this name has this number in a subcommand's matches, given or by default
-abbrev pub HasNumber : Text → List Row → ℕ → Type 0
-HasNumber option rows n = IsSomeAnd (one_of option rows) (λ text. Writes text n)
-
--- the option of this name has this number in a subcommand's matches, or is not given
-abbrev pub HasOptional : Text → List Row → Option ℕ → Type 0
-HasOptional option rows None = one_of option rows ≡ None
-HasOptional option rows (Some n) = HasNumber option rows n
-
--- the option of this name has this text in a subcommand's matches
-abbrev pub HasText : Text → List Row → Text → Type 0
-HasText option rows text = first_of option rows ≡ Some text
-
--- `--limit` has this value in a subcommand's matches, given or by default
-abbrev pub HasLimit : List Row → ℕ → Type 0
-HasLimit rows limit = HasNumber (codes "limit") rows limit
-
--- `--most` has this value in a subcommand's matches, or is not given
-abbrev pub HasMost : List Row → Option ℕ → Type 0
-HasMost rows None = one_of (codes "most") rows ≡ None
-HasMost rows (Some most) = HasNumber (codes "most") rows most
 
 -- the values of `--most` and `--json` for a format
 abbrev pub most_in : OutputFormat → Option ℕ
@@ -71,32 +35,32 @@ json_in form.Plain = false
 json_in (form.Chunked most) = false
 json_in form.JsonLines = true
 
--- `--most` and `--json` are both given, and the error names `--json`
+-- `--most` and `--json` are both given, and the error names `--json`, then `--most`
 abbrev pub ExcludeEach : Option ℕ → Bool → WordsFault → Type 0
 ExcludeEach most json (Clap error) = ⊥
-ExcludeEach most json (BadValue option) = (option.now ≡ codes "json") × (json ≡ true) × (most ≢ None)
+ExcludeEach most json (BadValue option) = ⊥
+ExcludeEach most json (Conflict option other) = (option.now ≡ codes "json") × (other.now ≡ codes "most") × (json ≡ true) × (most ≢ None)
 ExcludeEach most json NoMemory = ⊥
-
--- `--stream` has this UUID in a subcommand's matches, in any text form of a UUID
-abbrev pub HasStream : List Row → List ℕ → Type 0
-HasStream rows stream = IsSomeAnd (first_of (codes "stream") rows) (λ text. parsed text ≡ Some stream)
 
 -- the subcommand's name and its matches are those of these options
 abbrev pub IsReadAs : Text × List Row → Options → Type 0
-IsReadAs read (Check framing limit) = (read.0 ≡ codes "check") × HasFraming read.1 framing × HasLimit read.1 limit
-IsReadAs read (Show framing limit json) =
+IsReadAs read (Check framing limit calls) =
+    (read.0 ≡ codes "check") × HasFraming read.1 framing × HasLimit read.1 limit × HasFlag (codes "calls") read.1 calls
+IsReadAs read (Show framing limit json calls) =
     (read.0 ≡ codes "show") × HasFraming read.1 framing × HasLimit read.1 limit × HasFlag (codes "json") read.1 json
-IsReadAs read (Convert framing limit format) =
+    × HasFlag (codes "calls") read.1 calls
+IsReadAs read (Convert framing limit format calls) =
     (read.0 ≡ codes "convert") × HasFraming read.1 framing × HasLimit read.1 limit × HasMost read.1 (most_in format)
-    × HasFlag (codes "json") read.1 (json_in format)
+    × HasFlag (codes "json") read.1 (json_in format) × HasFlag (codes "calls") read.1 calls
 IsReadAs read (Replay limit json) = (read.0 ≡ codes "replay") × HasLimit read.1 limit × HasFlag (codes "json") read.1 json
 IsReadAs read (Relog limit) = (read.0 ≡ codes "relog") × HasLimit read.1 limit
 IsReadAs read (Serve port count stream) =
     (read.0 ≡ codes "serve") × HasNumber (codes "port") read.1 port × HasNumber (codes "count") read.1 count × HasStream read.1 stream
-IsReadAs read (Master port heartbeat resend finish_after seconds most once) =
+IsReadAs read (Master port heartbeat resend finish_after seconds most once plan) =
     (read.0 ≡ codes "master") × HasNumber (codes "port") read.1 port × HasNumber (codes "heartbeat") read.1 heartbeat
     × HasNumber (codes "resend") read.1 resend × HasOptional (codes "finish-after") read.1 finish_after
     × HasOptional (codes "seconds") read.1 seconds × HasNumber (codes "most") read.1 most × HasFlag (codes "once") read.1 once
+    × HasFaults read.1 plan.faults × HasRandom read.1 plan.random
 IsReadAs read (Subscribe to user name reads json) =
     (read.0 ≡ codes "subscribe") × HasText (codes "to") read.1 to × HasText (codes "user") read.1 user × HasText (codes "name") read.1 name
     × HasNumber (codes "reads") read.1 reads × HasFlag (codes "json") read.1 json
@@ -106,56 +70,16 @@ IsReadAs read (Loopback most) = (read.0 ≡ codes "loopback") × HasNumber (code
 abbrev pub NameOptions : List Text → Options → Type 0
 NameOptions words o = IsSomeAnd (subcommand_of command_app words) (λ read. IsReadAs read o)
 
--- the limit is in its range
-abbrev pub IsLimit : ℕ → Type 0
-IsLimit limit = (MIN_RECORD_LIMIT ≤ limit) × (limit ≤ MAX_RECORD_LIMIT)
-
--- the chunk size, if given, is in its range
-abbrev pub IsMost : Option ℕ → Type 0
-IsMost None = Unit {0}
-IsMost (Some most) = (MIN_CHUNK ≤ most) × (most ≤ MAX_CHUNK)
-
--- the number, if given, is from `least` to `greatest`
-abbrev pub IsWithin : ℕ → ℕ → Option ℕ → Type 0
-IsWithin least greatest None = Unit {0}
-IsWithin least greatest (Some n) = (least ≤ n) × (n ≤ greatest)
-
--- the values of `--port`, `--count` and `--reads` are in their ranges
-abbrev pub IsPort : ℕ → Type 0
-IsPort port = (MIN_PORT ≤ port) × (port ≤ MAX_PORT)
-
-abbrev pub IsCount : ℕ → Type 0
-IsCount count = (MIN_CONNECTIONS ≤ count) × (count ≤ MAX_CONNECTIONS)
-
-abbrev pub IsReads : ℕ → Type 0
-IsReads reads = (MIN_SUBSCRIBE_READS ≤ reads) × (reads ≤ MAX_SUBSCRIBE_READS)
-
--- the values of the options of `master` are in their ranges
-abbrev pub IsMasterPort : ℕ → Type 0
-IsMasterPort port = (MIN_MASTER_PORT ≤ port) × (port ≤ MAX_PORT)
-
-abbrev pub IsHeartbeat : ℕ → Type 0
-IsHeartbeat heartbeat = (MIN_HEARTBEAT ≤ heartbeat) × (heartbeat ≤ MAX_SECONDS)
-
-abbrev pub IsResend : ℕ → Type 0
-IsResend resend = (MIN_RESEND ≤ resend) × (resend ≤ MAX_SECONDS)
-
-abbrev pub IsFinishAfter : Option ℕ → Type 0
-IsFinishAfter finish_after = IsWithin MIN_FINISH_AFTER MAX_SECONDS finish_after
-
-abbrev pub IsSeconds : Option ℕ → Type 0
-IsSeconds seconds = IsWithin MIN_SECONDS MAX_SECONDS seconds
-
 -- each value of the options is in its range
 abbrev pub IsInRange : Options → Type 0
-IsInRange (Check framing limit) = IsLimit limit
-IsInRange (Show framing limit json) = IsLimit limit
-IsInRange (Convert framing limit format) = IsLimit limit × IsMost (most_in format)
+IsInRange (Check framing limit calls) = IsLimit limit
+IsInRange (Show framing limit json calls) = IsLimit limit
+IsInRange (Convert framing limit format calls) = IsLimit limit × IsMost (most_in format)
 IsInRange (Replay limit json) = IsLimit limit
 IsInRange (Relog limit) = IsLimit limit
 IsInRange (Serve port count stream) = IsPort port × IsCount count
-IsInRange (Master port heartbeat resend finish_after seconds most once) =
-    IsMasterPort port × IsHeartbeat heartbeat × IsResend resend × IsFinishAfter finish_after × IsSeconds seconds × IsMost (Some most)
+IsInRange (Master port heartbeat resend finish_after seconds most once plan) =
+    IsMasterPort port × IsHeartbeat heartbeat × IsResend resend × IsFinishAfter finish_after × IsSeconds seconds × IsMost (Some most) × IsPlan plan
 IsInRange (Subscribe to user name reads json) = IsHost to × IsReads reads
 IsInRange (Loopback most) = IsMost (Some most)
 
@@ -180,7 +104,9 @@ pub data Setting : Type 0 where
   the_resend : Setting
   the_finish_after : Setting
   the_seconds : Setting
-  the_format : Setting
+  the_fault : Setting
+  the_rate : Setting
+  the_seed : Setting
 
 -- the name of the option that sets it
 abbrev pub option_of : Setting → Text
@@ -199,7 +125,9 @@ option_of the_heartbeat = codes "heartbeat"
 option_of the_resend = codes "resend"
 option_of the_finish_after = codes "finish-after"
 option_of the_seconds = codes "seconds"
-option_of the_format = codes "json"
+option_of the_fault = codes "fault"
+option_of the_rate = codes "faults"
+option_of the_seed = codes "seed"
 
 -- the subcommands that have the option for this setting
 abbrev pub subcommands_with : Setting → List Text
@@ -214,11 +142,13 @@ subcommands_with the_heartbeat = codes "master" ∷ []
 subcommands_with the_resend = codes "master" ∷ []
 subcommands_with the_finish_after = codes "master" ∷ []
 subcommands_with the_seconds = codes "master" ∷ []
-subcommands_with the_format = codes "convert" ∷ []
+subcommands_with the_fault = codes "master" ∷ []
+subcommands_with the_rate = codes "master" ∷ []
+subcommands_with the_seed = codes "master" ∷ []
 subcommands_with _ = codes "subscribe" ∷ []
 
--- The option for this setting has a value in its range in a subcommand's matches. A flag that
--- excludes another option is in its range if not both are given.
+-- The option for this setting has a value in its range in a subcommand's matches. `--seed` needs
+-- one only if `--faults` is given.
 abbrev pub IsGood : Setting → List Row → Type 0
 IsGood the_limit rows = (limit : ℕ) × HasLimit rows limit × IsLimit limit
 IsGood the_most rows = (most : Option ℕ) × HasMost rows most × IsMost most
@@ -235,7 +165,9 @@ IsGood the_heartbeat rows = (heartbeat : ℕ) × HasNumber (codes "heartbeat") r
 IsGood the_resend rows = (resend : ℕ) × HasNumber (codes "resend") rows resend × IsResend resend
 IsGood the_finish_after rows = (finish_after : Option ℕ) × HasOptional (codes "finish-after") rows finish_after × IsFinishAfter finish_after
 IsGood the_seconds rows = (seconds : Option ℕ) × HasOptional (codes "seconds") rows seconds × IsSeconds seconds
-IsGood the_format rows = (format : OutputFormat) × HasMost rows (most_in format) × HasFlag (codes "json") rows (json_in format)
+IsGood the_fault rows = (faults : List Fault) × HasFaults rows faults
+IsGood the_rate rows = (rate : Option ℕ) × HasOptional (codes "faults") rows rate × IsRate rate
+IsGood the_seed rows = (one_of (codes "faults") rows ≡ None) ⊎ ((seed : ℕ) × HasNumber (codes "seed") rows seed × IsSeed seed)
 
 -- this subcommand has an option of this name, which has no value in its range in the matches
 pub record LacksValue (read : Text × List Row) (option : Text) : Type 0 where
@@ -243,6 +175,40 @@ pub record LacksValue (read : Text × List Row) (option : Text) : Type 0 where
   pub has : list_any (bytes_eq read.0) (subcommands_with setting) ≡ true
   pub is : option ≡ option_of setting
   pub lacks : ¬ (IsGood setting read.1)
+
+-- the pairs of options that exclude each other
+pub data Exclusion : Type 0 where
+  lines_or_chunked : Exclusion
+  json_or_most : Exclusion
+
+-- the option of the pair that the error names first
+abbrev pub option_in : Exclusion → Text
+option_in lines_or_chunked = codes "lines"
+option_in json_or_most = codes "json"
+
+-- the option that it names second
+abbrev pub other_in : Exclusion → Text
+other_in lines_or_chunked = codes "chunked"
+other_in json_or_most = codes "most"
+
+-- the subcommands that have both options
+abbrev pub subcommands_excluding : Exclusion → List Text
+subcommands_excluding lines_or_chunked = codes "check" ∷ codes "show" ∷ codes "convert" ∷ []
+subcommands_excluding json_or_most = codes "convert" ∷ []
+
+-- both options are given in a subcommand's matches
+abbrev pub AreBoth : Exclusion → List Row → Type 0
+AreBoth lines_or_chunked rows = HasFlag (codes "lines") rows true × HasFlag (codes "chunked") rows true
+AreBoth json_or_most rows = HasFlag (codes "json") rows true × (one_of (codes "most") rows ≢ None)
+
+-- this subcommand has two options of these names, which exclude each other, and both are given in
+-- the matches
+pub record GivesBoth (read : Text × List Row) (option : Text) (other : Text) : Type 0 where
+  pub exclusion : Exclusion
+  pub has : list_any (bytes_eq read.0) (subcommands_excluding exclusion) ≡ true
+  pub is : option ≡ option_in exclusion
+  pub is_other : other ≡ other_in exclusion
+  pub both : AreBoth exclusion read.1
 
 -- the names of the subcommands
 abbrev pub subcommand_names : List Text
@@ -258,19 +224,34 @@ LackValue words option =
     IsSomeAnd (subcommand_of command_app words) (λ read. LacksValue read option ⊎ IsUnknown read.0 option)
     ⊎ ((subcommand_of command_app words ≡ None) × (option ≡ codes "COMMAND"))
 
--- the fault is clap's kind of error for the arguments, a bad value in them, or out of memory
+-- the arguments give both options of these names, which exclude each other
+abbrev pub GiveBoth : List Text → Text → Text → Type 0
+GiveBoth words option other = IsSomeAnd (subcommand_of command_app words) (λ read. GivesBoth read option other)
+
+-- the fault is clap's kind of error for the arguments, a bad value in them, two options in them
+-- that exclude each other, or out of memory
 abbrev pub RefusesArgs : List Text → WordsFault → Type 0
 RefusesArgs words (Clap error) = IsAmong (kind_of error) (fault_of command_app words)
 RefusesArgs words (BadValue option) = (fault_of command_app words ≡ []) × NameNoOptions words × LackValue words option.now
+RefusesArgs words (Conflict option other) = (fault_of command_app words ≡ []) × NameNoOptions words × GiveBoth words option.now other.now
 RefusesArgs words NoMemory = Unit {0}
 
 -- the error names the option of this setting, which has no value in its range
 abbrev pub IsBad : Setting → List Row → WordsFault → Type 0
 IsBad setting rows (Clap error) = ⊥
 IsBad setting rows (BadValue option) = (option.now ≡ option_of setting) × ¬ (IsGood setting rows)
+IsBad setting rows (Conflict option other) = ⊥
 IsBad setting rows NoMemory = ⊥
 
--- like `IsBad`, or the text of the option's value could not be allocated
+-- the error names the options of this pair in order, and both are given
+abbrev pub IsConflict : Exclusion → List Row → WordsFault → Type 0
+IsConflict exclusion rows (Clap error) = ⊥
+IsConflict exclusion rows (BadValue option) = ⊥
+IsConflict exclusion rows (Conflict option other) =
+    (option.now ≡ option_in exclusion) × (other.now ≡ other_in exclusion) × AreBoth exclusion rows
+IsConflict exclusion rows NoMemory = ⊥
+
+-- like `IsBad`, or the option's value could not be allocated
 abbrev pub IsBadOrLacks : Setting → List Row → WordsFault → Type 0
 IsBadOrLacks setting rows fault = IsBad setting rows fault ⊎ (fault ≡ NoMemory)
 
@@ -278,42 +259,55 @@ IsBadOrLacks setting rows fault = IsBad setting rows fault ⊎ (fault ≡ NoMemo
 abbrev pub LacksNumber : Text → ℕ → ℕ → List Row → WordsFault → Type 0
 LacksNumber name least greatest rows (Clap error) = ⊥
 LacksNumber name least greatest rows (BadValue option) = (option.now ≡ name) × ¬ ((n : ℕ) × HasNumber name rows n × (least ≤ n) × (n ≤ greatest))
+LacksNumber name least greatest rows (Conflict option other) = ⊥
 LacksNumber name least greatest rows NoMemory = ⊥
 
 -- the error names this option, which is given and has no number from `least` to `greatest`
 abbrev pub LacksOptional : Text → ℕ → ℕ → List Row → WordsFault → Type 0
 LacksOptional name least greatest rows (Clap error) = ⊥
 LacksOptional name least greatest rows (BadValue option) = (option.now ≡ name) × ¬ ((n : Option ℕ) × HasOptional name rows n × IsWithin least greatest n)
+LacksOptional name least greatest rows (Conflict option other) = ⊥
 LacksOptional name least greatest rows NoMemory = ⊥
 
 -- the error names this option, which has no text
 abbrev pub LacksText : Text → List Row → WordsFault → Type 0
 LacksText name rows (Clap error) = ⊥
 LacksText name rows (BadValue option) = (option.now ≡ name) × (first_of name rows ≡ None)
+LacksText name rows (Conflict option other) = ⊥
 LacksText name rows NoMemory = ⊥
 
--- the result is the options of the matches, in range; or an error: no such options, or no memory
+-- the result is the options of the matches, in range; or an error: no such options, two options
+-- that exclude each other, or no memory
 abbrev pub Reads : Text × List Row → Result Options WordsFault → Type 0
 Reads read (Ok o) = IsReadAs read o × IsInRange o
 Reads read (Err (Clap error)) = ⊥
 Reads read (Err (BadValue option)) = (LacksValue read option.now ⊎ IsUnknown read.0 option.now) × ¬ ((o : Options) × IsReadAs read o × IsInRange o)
-Reads read (Err NoMemory) = read.0 ≡ codes "subscribe"
+Reads read (Err (Conflict option other)) = GivesBoth read option.now other.now × ¬ ((o : Options) × IsReadAs read o × IsInRange o)
+Reads read (Err NoMemory) = (read.0 ≡ codes "subscribe") ⊎ (read.0 ≡ codes "master")
 
 -- the fault for an error of clap: `Clap` with this error, or `NoMemory` if memory ran out
 abbrev pub IsFaultOf : Error → WordsFault → Type 0
 IsFaultOf error (Clap same) = (same ≡ error) × (kind_of error ≢ OutOfMemory)
 IsFaultOf error (BadValue option) = ⊥
+IsFaultOf error (Conflict option other) = ⊥
 IsFaultOf error NoMemory = kind_of error ≡ OutOfMemory
 
--- the arguments that give a framing: `--chunked`, or no argument for plain RecordIO
+-- the arguments that give a framing: `--chunked`, `--lines`, or no argument for plain RecordIO
 abbrev pub SayFraming : List Text → Framing → Type 0
 SayFraming words Plain = words ≡ []
 SayFraming words Chunked = words ≡ codes "--chunked" ∷ []
+SayFraming words Lines = words ≡ codes "--lines" ∷ []
 
 -- the arguments that set a flag: the flag, or no argument
 abbrev pub SayFlag : Text → List Text → Bool → Type 0
 SayFlag flag words false = words ≡ []
 SayFlag flag words true = words ≡ flag ∷ []
+
+-- the arguments that describe the input: those that give the framing, then `--calls` if the
+-- records are calls
+abbrev pub SayInput : List Text → Framing → Bool → Type 0
+SayInput words framing calls =
+    (flags : List Text) × (kinds : List Text) × SayFraming flags framing × SayFlag (codes "--calls") kinds calls × (words ≡ flags ++ kinds)
 
 -- the arguments that give an option this number: `--option N` or `--option=N`
 abbrev pub SayNumber : Text → List Text → ℕ → Type 0
@@ -352,22 +346,23 @@ abbrev pub SayMost : List Text → Option ℕ → Type 0
 SayMost words None = words ≡ []
 SayMost words (Some most) = SayNumber (codes "--most") words most
 
--- the program's name, this subcommand, `--chunked`, `--limit`, in this order, each at most once
-abbrev pub SayReading : Text → List Text → Framing → ℕ → Type 0
-SayReading name words framing limit =
-    (program : Text) × (flags : List Text) × (limits : List Text) × SayFraming flags framing × SayLimit limits limit
+-- the program's name, this subcommand, `--chunked` or `--lines`, `--calls`, `--limit`, in this
+-- order, each at most once
+abbrev pub SayReading : Text → List Text → Framing → ℕ → Bool → Type 0
+SayReading name words framing limit calls =
+    (program : Text) × (flags : List Text) × (limits : List Text) × SayInput flags framing calls × SayLimit limits limit
     × (words ≡ program ∷ name ∷ (flags ++ limits))
 
 -- like `SayReading`, but for `show`, with `--json` last
-abbrev pub SayShow : List Text → Framing → ℕ → Bool → Type 0
-SayShow words framing limit json =
-    (program : Text) × (flags : List Text) × (limits : List Text) × (lines : List Text) × SayFraming flags framing
+abbrev pub SayShow : List Text → Framing → ℕ → Bool → Bool → Type 0
+SayShow words framing limit json calls =
+    (program : Text) × (flags : List Text) × (limits : List Text) × (lines : List Text) × SayInput flags framing calls
     × SayLimit limits limit × SayFlag (codes "--json") lines json × (words ≡ program ∷ codes "show" ∷ (flags ++ (limits ++ lines)))
 
 -- like `SayReading`, but for `convert`, with `--most` or `--json` last
-abbrev pub SayConvert : List Text → Framing → ℕ → OutputFormat → Type 0
-SayConvert words framing limit format =
-    (program : Text) × (flags : List Text) × (limits : List Text) × (sizes : List Text) × (lines : List Text) × SayFraming flags framing
+abbrev pub SayConvert : List Text → Framing → ℕ → OutputFormat → Bool → Type 0
+SayConvert words framing limit format calls =
+    (program : Text) × (flags : List Text) × (limits : List Text) × (sizes : List Text) × (lines : List Text) × SayInput flags framing calls
     × SayLimit limits limit × SayMost sizes (most_in format) × SayFlag (codes "--json") lines (json_in format)
     × (words ≡ program ∷ codes "convert" ∷ (flags ++ (limits ++ (sizes ++ lines))))
 
@@ -388,7 +383,7 @@ SayServe words port count stream =
     × SayNumber (codes "--count") counts count × SayStream streams stream × (words ≡ program ∷ codes "serve" ∷ (ports ++ (counts ++ streams)))
 
 -- like `SayReading`, but for `master`, with `--port`, `--heartbeat`, `--resend`, `--finish-after`,
--- `--seconds`, `--most`, `--once`
+-- `--seconds`, `--most`, `--once`, and without `--fault`, `--faults`, `--seed`
 abbrev pub SayMaster : List Text → ℕ → ℕ → ℕ → Option ℕ → Option ℕ → ℕ → Bool → Type 0
 SayMaster words port heartbeat resend finish_after seconds most once =
     (program : Text) × (ports : List Text) × (heartbeats : List Text) × (resends : List Text) × (finishes : List Text) × (times : List Text)
@@ -411,14 +406,21 @@ abbrev pub SayLoopback : List Text → ℕ → Type 0
 SayLoopback words most =
     (program : Text) × (sizes : List Text) × SayUsually DEFAULT_LOOPBACK_CHUNK.now (codes "--most") sizes most × (words ≡ program ∷ codes "loopback" ∷ sizes)
 
--- the arguments are the program's name, a subcommand and its options in order, each at most once
+-- a plan without faults
+abbrev pub no_faults : Plan
+no_faults = record { faults = []; random = None }
+
+-- The arguments are the program's name, a subcommand and its options in order, each at most once.
+-- `--fault`, `--faults` and `--seed` of `master` are not among them: what they mean is in
+-- `NameOptions`, for all arguments.
 abbrev pub SayPlainly : List Text → Options → Type 0
-SayPlainly words (Check framing limit) = SayReading (codes "check") words framing limit
-SayPlainly words (Show framing limit json) = SayShow words framing limit json
-SayPlainly words (Convert framing limit format) = SayConvert words framing limit format
+SayPlainly words (Check framing limit calls) = SayReading (codes "check") words framing limit calls
+SayPlainly words (Show framing limit json calls) = SayShow words framing limit json calls
+SayPlainly words (Convert framing limit format calls) = SayConvert words framing limit format calls
 SayPlainly words (Replay limit json) = SayReplay words limit json
 SayPlainly words (Relog limit) = SayLog (codes "relog") words limit
 SayPlainly words (Serve port count stream) = SayServe words port count stream
-SayPlainly words (Master port heartbeat resend finish_after seconds most once) = SayMaster words port heartbeat resend finish_after seconds most once
+SayPlainly words (Master port heartbeat resend finish_after seconds most once plan) =
+    SayMaster words port heartbeat resend finish_after seconds most once × (plan ≡ no_faults)
 SayPlainly words (Subscribe to user name reads json) = SaySubscribe words to user name reads json
 SayPlainly words (Loopback most) = SayLoopback words most

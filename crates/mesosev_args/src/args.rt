@@ -2,6 +2,7 @@
 ghost use Rattle.mesosev_args.specs.NamedOptions.{IsFaultOf};
 
 use clap::error::ErrorKind;
+use mes_double_faults::FaultPlan;
 use mes_double_http::Host;
 use mes_frame::{Limit, default_record_limit};
 use mes_json::Text;
@@ -49,6 +50,21 @@ pub const MIN_SECONDS: u32 = 1;
 /// The default of `--most` in `master`, in bytes: each event is in one chunk.
 pub const DEFAULT_MASTER_CHUNK: &str = "16777216";
 
+/// The least value of `--faults`: faults in 1,000 events and calls.
+pub const MIN_RATE: u32 = 1;
+
+/// The greatest value of `--faults`.
+pub const MAX_RATE: u32 = 1_000;
+
+/// The least value of `--seed`.
+pub const MIN_SEED: u32 = 0;
+
+/// The greatest value of `--seed`: 2^32 - 1.
+pub const MAX_SEED: u32 = 4_294_967_295;
+
+/// The default of `--seed`.
+pub const DEFAULT_SEED: &str = "0";
+
 /// The least number of connections that `serve` accepts for `--count`.
 pub const MIN_CONNECTIONS: u32 = 1;
 
@@ -73,14 +89,17 @@ pub const DEFAULT_LOOPBACK_CHUNK: &str = "4096";
 /// A subcommand with the values of its command-line options.
 #[derive(Drop)]
 pub enum Options {
-    /// `check [--chunked] [--limit N]`: checks that each record is an event.
+    /// `check [--chunked] [--lines] [--calls] [--limit N]`: checks that each record is an event.
     Check {
         /// The framing of the input.
         framing: Framing,
         /// The largest record, in bytes.
         limit: Limit,
+        /// Whether the records are calls, not events.
+        calls: bool,
     },
-    /// `show [--chunked] [--limit N] [--json]`: prints each event as soon as it is decoded.
+    /// `show [--chunked] [--lines] [--calls] [--limit N] [--json]`: prints each event as soon as
+    /// it is decoded.
     Show {
         /// The framing of the input.
         framing: Framing,
@@ -88,9 +107,11 @@ pub enum Options {
         limit: Limit,
         /// Whether the events are printed as JSON Lines.
         json: bool,
+        /// Whether the records are calls, not events.
+        calls: bool,
     },
-    /// `convert [--chunked] [--limit N] [--most M] [--json]`: re-encodes the events, as plain
-    /// RecordIO, as a chunked body or as JSON Lines.
+    /// `convert [--chunked] [--lines] [--calls] [--limit N] [--most M] [--json]`: re-encodes the
+    /// events, as plain RecordIO, as a chunked body or as JSON Lines.
     Convert {
         /// The framing of the input.
         framing: Framing,
@@ -98,6 +119,8 @@ pub enum Options {
         limit: Limit,
         /// The form in which the events are written.
         format: OutputFormat,
+        /// Whether the records are calls, not events.
+        calls: bool,
     },
     /// `replay [--limit N] [--json]`: replays a session log, and prints the outcome.
     Replay {
@@ -121,7 +144,8 @@ pub enum Options {
         stream: Uuid,
     },
     /// `master --port P [--heartbeat S] [--resend S] [--finish-after S] [--seconds S] [--most M]
-    /// [--once]`: runs a live test master. Times are in seconds.
+    /// [--fault F].. [--faults R] [--seed N] [--once]`: runs a live test master. Times are in
+    /// seconds.
     Master {
         /// The TCP port on which the master listens; 0 for a free one.
         port: u16,
@@ -137,6 +161,9 @@ pub enum Options {
         most: ChunkSize,
         /// Whether the master ends after a TEARDOWN.
         once: bool,
+        /// The faults of the run: those of `--fault` in their order, and those at random, if
+        /// `--faults` is given.
+        plan: FaultPlan,
     },
     /// `subscribe --to ADDR --user U --name N [--reads R] [--json]`: subscribes to a master, and
     /// prints its events.
@@ -168,6 +195,14 @@ pub enum WordsFault {
     /// The value of the command-line option with this name is out of its range.
     #[error("bad value --{0}")]
     BadValue(&'static str),
+    /// The command-line options with these names exclude each other, and both are given.
+    #[error("error: the argument '--{option}' cannot be used with '--{other}'")]
+    Conflict {
+        /// The option that the text names first.
+        option: &'static str,
+        /// The option that excludes it.
+        other: &'static str,
+    },
     /// An allocation failed.
     #[error("out of memory")]
     NoMemory,

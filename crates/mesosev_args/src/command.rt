@@ -2,7 +2,7 @@
 ghost use Rattle.std.specs.Prelude.{◌≡◌, false, true, map, IfOk, MatchResult, IfErr, []};
 ghost use Rattle.clap.specs.Words.{App, HasKind, app_of, fault_of, rule_of, subcommand_of};
 ghost use Rattle.clap.specs.Words.{subcommand_rows_of, with_subcommand};
-ghost use Rattle.mesosev_args.specs.CommandLine.{bare_app, chunked_rule, json_rule, limit_rule, most_rule, number_rule, text_rule};
+ghost use Rattle.mesosev_args.specs.CommandLine.{bare_app, calls_rule, chunked_rule, json_rule, limit_rule, lines_rule, most_rule, number_rule, text_rule};
 ghost use Rattle.mesosev_args.specs.CommandLine.{IsCommand, command_app, reading_app};
 
 use crate::args::{DEFAULT_LIMIT, VERSION};
@@ -14,8 +14,9 @@ use mes_frame::{
 use std::alloc::{AllocError, Global};
 use std::convert::AsStr;
 
-/// The help text of the flag `--json`, if it prints events.
-pub const JSON_LINES_HELP: &str = "Print JSON Lines: each event as canonical JSON and LF";
+/// The help text of the flag `--json`, if events are printed as they arrive.
+pub const JSON_LINES_HELP: &str =
+    "Print JSON Lines: each event as canonical JSON and LF; all else goes to standard error";
 
 /// Matches the arguments against the command; the first one is the program's name.
 ///
@@ -75,8 +76,8 @@ fn bare_command<'a>(alloc: Global) -> Command<'a>
         .subcommand_required(true)
 }
 
-/// Returns a subcommand that reads a stream: `NAME [--chunked] [--limit N]`. Its help text ends with
-/// `example`.
+/// Returns a subcommand that reads a stream: `NAME [--chunked] [--lines] [--calls] [--limit N]`.
+/// Its help text ends with `example`.
 pub fn reading_command<'a>(
     alloc: Global,
     name: &'a str,
@@ -89,6 +90,8 @@ pub fn reading_command<'a>(
         .about(about)
         .after_help(example)
         .arg(chunked_option(alloc))?
+        .arg(lines_option(alloc))?
+        .arg(calls_option(alloc))?
         .arg(limit_option(alloc))
 }
 
@@ -100,6 +103,26 @@ fn chunked_option<'a>(alloc: Global) -> Arg<'a>
         .long("chunked")
         .action(ArgAction::SetTrue)
         .help("Input is a chunked HTTP/1.1 body, not plain RecordIO")
+}
+
+fn lines_option<'a>(alloc: Global) -> Arg<'a>
+    ensures rule { rule_of result ≡ lines_rule }
+    ensures local { result.global ≡ false }
+{
+    Arg::new(alloc, "lines")
+        .long("lines")
+        .action(ArgAction::SetTrue)
+        .help("Input is JSON Lines, not plain RecordIO; not with --chunked")
+}
+
+fn calls_option<'a>(alloc: Global) -> Arg<'a>
+    ensures rule { rule_of result ≡ calls_rule }
+    ensures local { result.global ≡ false }
+{
+    Arg::new(alloc, "calls")
+        .long("calls")
+        .action(ArgAction::SetTrue)
+        .help("Records are calls of a scheduler, not events")
 }
 
 /// Returns the flag `--json`.

@@ -2,7 +2,8 @@
 ghost use Rattle.std.specs.Prelude.{◌≡◌, false, IfOk, IfErr, Some, codes};
 ghost use Rattle.clap.specs.Words.{found_of, rows_of, rule_of};
 ghost use Rattle.mesosev_args.specs.CommandLine.{IsCommand, loopback_app, most_rule, usually};
-ghost use Rattle.mesosev_args.specs.NamedOptions.{HasNumber, IsBad, IsMost, Reads};
+ghost use Rattle.mesosev_args.specs.NamedOptions.{IsBad, Reads};
+ghost use Rattle.mesosev_args.specs.OptionValues.{HasNumber, IsMost};
 ghost use Rattle.mesosev_args.specs.NamedOptions.{the_size};
 
 use crate::args::{DEFAULT_LOOPBACK_CHUNK, Options, WordsFault};

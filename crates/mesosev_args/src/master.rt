@@ -3,23 +3,26 @@ ghost use Rattle.std.specs.Prelude.{◌≡◌, false, IfOk, IfErr, Some, codes};
 ghost use Rattle.clap.specs.Words.{found_of, new_app, rows_of, rule_of};
 ghost use Rattle.mesosev_args.specs.CommandLine.{IsCommand, chunk_rule, finish_after_rule, heartbeat_rule, master_app};
 ghost use Rattle.mesosev_args.specs.CommandLine.{master_port_rule, once_rule, resend_rule, seconds_rule};
-ghost use Rattle.mesosev_args.specs.NamedOptions.{HasNumber, HasOptional, IsBad, IsFinishAfter, IsHeartbeat, IsMasterPort};
-ghost use Rattle.mesosev_args.specs.NamedOptions.{IsMost, IsResend, IsSeconds, Reads, the_finish_after, the_heartbeat};
+ghost use Rattle.mesosev_args.specs.NamedOptions.{IsBad, Reads, the_finish_after, the_heartbeat};
 ghost use Rattle.mesosev_args.specs.NamedOptions.{the_master_port, the_resend, the_seconds, the_size};
+ghost use Rattle.mesosev_args.specs.OptionValues.{HasNumber, HasOptional, IsFinishAfter, IsHeartbeat, IsMasterPort};
+ghost use Rattle.mesosev_args.specs.OptionValues.{IsMost, IsResend, IsSeconds};
 
 use crate::args::{
     DEFAULT_HEARTBEAT, DEFAULT_MASTER_CHUNK, DEFAULT_RESEND, MAX_PORT, MAX_SECONDS,
     MIN_FINISH_AFTER, MIN_HEARTBEAT, MIN_MASTER_PORT, MIN_RESEND, MIN_SECONDS, Options, WordsFault,
 };
 use crate::command::{most_option, number_option};
+use crate::faults::{fault_option, faults_of, faults_option, random_of, seed_option};
 use crate::values::{flag_of, number_in, optional_number_in};
 use clap::{Arg, ArgAction, ArgMatches, Command};
+use mes_double_faults::FaultPlan;
 use mes_frame::{MAX_CHUNK, MIN_CHUNK, max_chunk};
 use mesosev_stream::ChunkSize;
 use std::alloc::{AllocError, Global};
 
 /// Returns `master --port P [--heartbeat S] [--resend S] [--finish-after S] [--seconds S] [--most M]
-/// [--once]` as clap's command.
+/// [--fault F].. [--faults R] [--seed N] [--once]` as clap's command.
 pub fn command<'a>(alloc: Global) -> Result<Command<'a>, AllocError>
     ensures { IfOk result (IsCommand master_app) }
 {
@@ -30,6 +33,9 @@ pub fn command<'a>(alloc: Global) -> Result<Command<'a>, AllocError>
         .arg(finish_after_option(alloc))?
         .arg(seconds_option(alloc))?
         .arg(chunk_option(alloc))?
+        .arg(fault_option(alloc))?
+        .arg(faults_option(alloc))?
+        .arg(seed_option(alloc))?
         .arg(once_option(alloc))
 }
 
@@ -41,6 +47,8 @@ fn bare_command<'a>(alloc: Global) -> Command<'a>
         .about("Serve a live test master on 127.0.0.1, with offers and events from standard input")
         .after_help(
             "Input is plain RecordIO, from a file, or from a pipe while the master runs\n\
+            Faults: lose:K twice:K cut:K:B late:K:S mute:K busy:K unanswered:K slow:K:S gone:K reset:K chunk:M\n\
+            K is the number of the event or call, from 1; B and M are bytes, S is seconds\n\
             Example: mesosev master --port 5050 < FILE",
         )
 }
@@ -139,8 +147,9 @@ fn once_option<'a>(alloc: Global) -> Arg<'a>
 
 /// Reads the option values from clap's matches.
 ///
-/// Errors: `BadValue` if a value is out of its range.
-pub fn read(found: &ArgMatches<'_>) -> Result<Options, WordsFault>
+/// Errors: `BadValue` if a value is out of its range, or a text of `--fault` is that of no fault;
+/// `NoMemory`.
+pub fn read(alloc: Global, found: &ArgMatches<'_>) -> Result<Options, WordsFault>
     ensures { Reads (codes "master", rows_of (found_of found.now)) result }
 {
     let port = port_of(found)?;
@@ -149,6 +158,8 @@ pub fn read(found: &ArgMatches<'_>) -> Result<Options, WordsFault>
     let finish_after = finish_after_of(found)?;
     let seconds = seconds_of(found)?;
     let most = size_of(found)?;
+    let random = random_of(found)?;
+    let faults = faults_of(alloc, found)?;
     let once = flag_of(found, "once");
     Ok(Options::Master {
         port,
@@ -158,6 +169,7 @@ pub fn read(found: &ArgMatches<'_>) -> Result<Options, WordsFault>
         seconds,
         most,
         once,
+        plan: FaultPlan::new(faults, random),
     })
 }
 

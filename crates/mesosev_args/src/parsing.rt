@@ -17,7 +17,7 @@ use std::convert::AsStr;
 /// Parses the arguments; the first one is the program's name.
 ///
 /// Errors: `Clap` for a usage error or a request for help, `BadValue` if a value is out of its
-/// range, `NoMemory`.
+/// range, `Conflict` if two options are given that exclude each other, `NoMemory`.
 pub fn options<S: AsStr>(alloc: Global, words: &[S]) -> Result<Options, WordsFault>
     // On success: clap accepts the arguments. The arguments name the returned subcommand with the
     // returned values, each in its range.
@@ -50,7 +50,7 @@ fn read(alloc: Global, name: &str, found: &ArgMatches<'_>) -> Result<Options, Wo
         "replay" => replay::read(found),
         "relog" => relog::read(found),
         "serve" => serve::read(found),
-        "master" => master::read(found),
+        "master" => master::read(alloc, found),
         "subscribe" => subscribe::read(alloc, found),
         "loopback" => loopback::read(found),
         _ => Err(WordsFault::BadValue("COMMAND")),

@@ -2,7 +2,8 @@
 ghost use Rattle.std.specs.Prelude.{◌≡◌, false, IfOk, IfErr, codes};
 ghost use Rattle.clap.specs.Words.{found_of, rows_of, rule_of};
 ghost use Rattle.mesosev_args.specs.CommandLine.{IsCommand, count_rule, port_rule, serve_app, stream_rule};
-ghost use Rattle.mesosev_args.specs.NamedOptions.{HasNumber, HasStream, IsBad, IsCount, IsPort, Reads};
+ghost use Rattle.mesosev_args.specs.NamedOptions.{IsBad, Reads};
+ghost use Rattle.mesosev_args.specs.OptionValues.{HasNumber, HasStream, IsCount, IsPort};
 ghost use Rattle.mesosev_args.specs.NamedOptions.{the_count, the_port, the_stream};
 
 use crate::args::{

@@ -10,7 +10,7 @@ use crate::values::{flag_of, framing_of, limit_of};
 use clap::{ArgMatches, Command};
 use std::alloc::{AllocError, Global};
 
-/// Returns `show [--chunked] [--limit N] [--json]` as clap's command.
+/// Returns `show [--chunked] [--lines] [--calls] [--limit N] [--json]` as clap's command.
 pub fn command<'a>(alloc: Global) -> Result<Command<'a>, AllocError>
     ensures { IfOk result (IsCommand show_app) }
 {
@@ -25,16 +25,19 @@ pub fn command<'a>(alloc: Global) -> Result<Command<'a>, AllocError>
 
 /// Reads the option values from clap's matches.
 ///
-/// Errors: `BadValue` if a value is out of its range.
+/// Errors: `BadValue` if a value is out of its range; `Conflict` if both `--chunked` and `--lines` are
+/// given.
 pub fn read(found: &ArgMatches<'_>) -> Result<Options, WordsFault>
     ensures { Reads (codes "show", rows_of (found_of found.now)) result }
 {
     let limit = limit_of(found)?;
-    let framing = framing_of(found);
+    let framing = framing_of(found)?;
     let json = flag_of(found, "json");
+    let calls = flag_of(found, "calls");
     Ok(Options::Show {
         framing,
         limit,
         json,
+        calls,
     })
 }

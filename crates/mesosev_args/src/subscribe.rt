@@ -3,7 +3,8 @@ ghost use Rattle.std.specs.Prelude.{◌≡◌, false, IfOk, IfErr, codes};
 ghost use Rattle.clap.specs.Words.{found_of, new_app, rows_of, rule_of};
 ghost use Rattle.mes_double_http.specs.Hosts.{IsHost};
 ghost use Rattle.mesosev_args.specs.CommandLine.{IsCommand, name_rule, reads_rule, subscribe_app, to_rule, user_rule};
-ghost use Rattle.mesosev_args.specs.NamedOptions.{HasNumber, HasText, IsBad, IsBadOrLacks, IsReads, Reads};
+ghost use Rattle.mesosev_args.specs.NamedOptions.{IsBad, IsBadOrLacks, Reads};
+ghost use Rattle.mesosev_args.specs.OptionValues.{HasNumber, HasText, IsReads};
 ghost use Rattle.mesosev_args.specs.NamedOptions.{the_name, the_reads, the_to, the_user};
 
 use crate::args::{

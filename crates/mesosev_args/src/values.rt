@@ -1,9 +1,10 @@
 //! Values of command-line options, read from clap's matches of a subcommand.
 ghost use Rattle.std.specs.Prelude.{◌≤◌, IfOk, IfErr};
 ghost use Rattle.clap.specs.Words.{found_of, rows_of};
-ghost use Rattle.mesosev_args.specs.NamedOptions.{HasFlag, HasFraming, HasLimit, HasMost, HasNumber, HasOptional, HasText};
-ghost use Rattle.mesosev_args.specs.NamedOptions.{IsBad, IsLimit, IsMost, IsWithin, LacksNumber, LacksOptional};
-ghost use Rattle.mesosev_args.specs.NamedOptions.{LacksText, the_limit, the_most};
+ghost use Rattle.mesosev_args.specs.NamedOptions.{IsBad, IsConflict, LacksNumber, LacksOptional};
+ghost use Rattle.mesosev_args.specs.NamedOptions.{LacksText, lines_or_chunked, the_limit, the_most};
+ghost use Rattle.mesosev_args.specs.OptionValues.{HasFlag, HasFraming, HasLimit, HasMost, HasNumber, HasOptional, HasText};
+ghost use Rattle.mesosev_args.specs.OptionValues.{IsLimit, IsMost, IsWithin};
 
 use crate::args::WordsFault;
 use clap::ArgMatches;
@@ -11,13 +12,22 @@ use mes_frame::{Limit, MAX_RECORD_LIMIT, MIN_RECORD_LIMIT};
 use mes_stream::Framing;
 use mesosev_stream::ChunkSize;
 
-/// Returns the framing: `Chunked` if the flag `--chunked` is set, else `Plain`.
-pub fn framing_of(matches: &ArgMatches<'_>) -> Framing
-    ensures { HasFraming (rows_of (found_of matches.now)) result }
+/// Returns the framing: `Chunked` if the flag `--chunked` is set, `Lines` if the flag `--lines` is
+/// set, else `Plain`.
+///
+/// Errors: `Conflict` if both flags are set.
+pub fn framing_of(matches: &ArgMatches<'_>) -> Result<Framing, WordsFault>
+    ensures ok { IfOk result (HasFraming (rows_of (found_of matches.now))) }
+    ensures err { IfErr result (IsConflict lines_or_chunked (rows_of (found_of matches.now))) }
 {
-    match matches.get_one::<bool>("chunked") {
-        Some(true) => Framing::Chunked,
-        _ => Framing::Plain,
+    match (flag_of(matches, "chunked"), flag_of(matches, "lines")) {
+        (false, false) => Ok(Framing::Plain),
+        (true, false) => Ok(Framing::Chunked),
+        (false, true) => Ok(Framing::Lines),
+        (true, true) => Err(WordsFault::Conflict {
+            option: "lines",
+            other: "chunked",
+        }),
     }
 }
 

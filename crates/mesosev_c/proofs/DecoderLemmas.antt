@@ -1,20 +1,20 @@
 -- The effect of a piece on an `EventDecoder` follows from its effect on the decoder's
 -- `StreamReader`.
-use Rattle.std.proofs.Common.{◌≡◌, ◌≢◌, ℕ, ◌+◌, ◌<◌, ◌≤◌, List, ◌++◌, length, take, refl, ◌∙◌, arith, length-append, length-take-le, None, Some}
+use Rattle.std.proofs.Common.{Result, Ok, Err, ◌≡◌, ◌≢◌, ℕ, ◌+◌, ◌<◌, ◌≤◌, List, ◌++◌, length, take, refl, ◌∙◌, arith, length-append, length-take-le, None, Some}
 use Rattle.mes_msg.specs.Event.{Event}
 use Rattle.mes_msg.specs.Events.{Spells}
-use Rattle.mes_stream.specs.EventData.{HoldsData}
-use Rattle.mes_stream.specs.Framings.{SaysIn, GoesBefore}
+use Rattle.mes_stream.specs.MessageData.{HoldsData}
+use Rattle.mes_stream.specs.Framings.{SaysIn, GoesBefore, InputEnds}
 use Rattle.mes_stream.specs.Refusals.{IsEventRefusal}
 use Rattle.mes_stream.specs.Stream.{saturated}
 use Rattle.mes_stream.specs.StreamReaders.{StreamRepresents}
-use Rattle.mes_stream.specs.declared.event_reader.EventReader.{EventReader}
+use Rattle.mes_stream.specs.declared.message_reader.MessageReader.{MessageReader}
 use Rattle.mes_stream.specs.declared.stream_reader.Framing.{Framing}
 use Rattle.mes_stream.specs.declared.stream_reader.StreamReader.{StreamReader}
 use Rattle.mes_stream.specs.declared.fault.Fault.{Fault}
 use Rattle.mes_stream.specs.declared.step.Decoded.{Decoded}
 use Rattle.mes_stream.specs.declared.step.Decoded.TheVariants as out
-use Rattle.mesosev_c.specs.Decoders.{Takes, DecoderStateRepresents, EndsBy, answer_of}
+use Rattle.mesosev_c.specs.Decoders.{Takes, DecoderStateRepresents, EndsBy, EndsInput, answer_of, end_by, outcome_of}
 use Rattle.mesosev_c.specs.declared.event_decoder.EventDecoder.{EventDecoder}
 use Rattle.mesosev_c.specs.declared.event_decoder.State.TheVariants as state
 use Rattle.mesosev_c.specs.declared.event_decoder.StreamEnd.{StreamEnd}
@@ -60,7 +60,7 @@ says_last framing S T limit w piece events used end (out.Event event) by h = let
 says_last framing S T limit w piece events used end out.End by h = h
 says_last framing S T limit w piece events used end (out.Fault fault) by h = h
 
-module _ (was : ℕ) (stream after : StreamReader EventReader) (piece : List ℕ) (used : ℕ) (answer : Decoded Event Fault) (total : ℕ)
+module _ (was : ℕ) (stream after : StreamReader (MessageReader Event)) (piece : List ℕ) (used : ℕ) (answer : Decoded Event Fault) (total : ℕ)
     (says : (ahead : ℕ) (framing : Framing) (limit : ℕ) (w : List ℕ) (events : List Event) → StreamRepresents HoldsData Spells ahead stream framing limit w events
     → SaysIn framing (StreamRepresents HoldsData Spells ahead after framing limit) Spells IsEventRefusal ahead limit w events piece used answer)
     (before : (ahead : ℕ) (framing : Framing) (limit : ℕ) (w : List ℕ) (events : List Event) → StreamRepresents HoldsData Spells ahead stream framing limit w events → GoesBefore framing Spells limit w events piece used)
@@ -95,3 +95,19 @@ module _ (was : ℕ) (stream after : StreamReader EventReader) (piece : List ℕ
     ends = by;
     again = tt;
   }
+
+-- the outcome of the input's end is stored, and `finish` returns it again
+outcome_again : (outcome : Result (Unit {0}) Fault) → outcome_of (end_by outcome) ≡ outcome
+outcome_again (Ok done) = refl
+outcome_again (Err fault) = refl
+
+-- the end of the input, for a decoder whose stream has not ended
+pub ends_input : (used : ℕ) (stream : StreamReader (MessageReader Event)) (outcome : Result (Unit {0}) Fault)
+    → ((ahead : ℕ) (framing : Framing) (limit : ℕ) (w : List ℕ) (events : List Event) → StreamRepresents HoldsData Spells ahead stream framing limit w events → InputEnds framing Spells limit w events outcome)
+    → EndsInput (record { state = state.Going stream; used = used }) (record { state = state.Ended (end_by outcome); used = used }) (outcome_of (end_by outcome))
+ends_input used stream outcome ends = record {
+  means = λ framing limit w events s. rw (outcome_again outcome) (ends 0 framing limit w events s.0);
+  ends = rw (outcome_again outcome) refl;
+  again = tt;
+  count = refl;
+}

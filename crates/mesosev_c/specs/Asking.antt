@@ -2,7 +2,7 @@
 use Rattle.std.specs.Prelude.{◌≡◌, ℕ, ◌<◌, ◌≤◌, Result, Ok, Err}
 use Rattle.mes_frame.specs.declared.limits.TheConstants.{MIN_RECORD_LIMIT, MAX_RECORD_LIMIT}
 use Rattle.mes_stream.specs.declared.stream_reader.Framing.{Framing}
-use Rattle.mes_stream.specs.declared.stream_reader.Framing.TheVariants.{Plain, Chunked}
+use Rattle.mes_stream.specs.declared.stream_reader.Framing.TheVariants.{Plain, Chunked, Lines}
 use Rattle.mesosev_c.specs.declared.option_numbers.DecoderOptions.{DecoderOptions}
 use Rattle.mesosev_c.specs.declared.option_numbers.BadOption.{BadOption}
 use Rattle.mesosev_c.specs.declared.option_numbers.BadOption.TheVariants as refused
@@ -16,6 +16,7 @@ IsLimit bytes = (MIN_RECORD_LIMIT ≤ bytes) × (bytes ≤ MAX_RECORD_LIMIT)
 abbrev pub number_of_framing : Framing → ℕ
 number_of_framing Plain = 0
 number_of_framing Chunked = 1
+number_of_framing Lines = 2
 
 -- the options that the two numbers represent, or the invalid one; the limit is checked first
 abbrev pub IsAsked : ℕ → ℕ → Result DecoderOptions BadOption → Type 0

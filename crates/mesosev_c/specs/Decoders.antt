@@ -2,7 +2,7 @@
 use Rattle.std.specs.Prelude.{◌≡◌, ◌≢◌, ℕ, ◌+◌, ◌<◌, ◌≤◌, List, length, Option, None, Some, IfSome, Result, Ok, Err}
 use Rattle.mes_msg.specs.Event.{Event}
 use Rattle.mes_msg.specs.Events.{Spells}
-use Rattle.mes_stream.specs.EventData.{HoldsData}
+use Rattle.mes_stream.specs.MessageData.{HoldsData}
 use Rattle.mes_stream.specs.Framings.{SaysIn, GoesBefore, InputEnds}
 use Rattle.mes_stream.specs.Refusals.{IsEventRefusal}
 use Rattle.mes_stream.specs.Stream.{saturated}

@@ -12,3 +12,7 @@ pub mod Numbers
 pub mod Rooms
 pub mod Rows
 pub mod Reporting
+pub mod SessionExports
+pub mod SessionHandles
+pub mod SessionLends
+pub mod SessionResults

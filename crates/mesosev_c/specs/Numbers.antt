@@ -30,6 +30,14 @@ END = 34
 abbrev pub NO_TEXT : ℕ
 NO_TEXT = 35
 
+-- the status if a text does not fit the caller's buffer
+abbrev pub NO_ROOM : ℕ
+NO_ROOM = 36
+
+-- the status if a session has no framework, or no such offer or update
+abbrev pub ABSENT : ℕ
+ABSENT = 37
+
 -- the statuses of a record limit out of its range, and of an unknown framing number
 abbrev pub BAD_LIMIT : ℕ
 BAD_LIMIT = 100

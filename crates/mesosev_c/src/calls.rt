@@ -7,12 +7,12 @@ ghost use Rattle.mes_stream.specs.Refusals.{fault_at_record, refusal_of};
 ghost use Rattle.mesosev_c.specs.CallTexts.{IsReportedCall, IsReportedText, PutsCall};
 
 use crate::caller_buffer::put_text;
-use crate::statuses::{NO_TEXT, SUCCESS, fault_number};
-use arrayvec::ArrayString;
+use crate::session_results::put_fault;
+use crate::statuses::{NO_TEXT, SUCCESS};
 use mes_frame::Limit;
-use mes_model_schema::FieldFault;
-use mes_msg::{Call, EncodeFault, RecordFault};
-use mes_stream::{Fault, MAX_FAULT_LINE, fault_line};
+use mes_msg::{Call, EncodeFault};
+use mes_stream::Fault;
+use mesosev_session::fault_of_text;
 use std::alloc::Global;
 
 /// The outcome of decoding a call.
@@ -34,7 +34,7 @@ pub fn report_call(alloc: Global, bytes: &[u8]) -> ReportedCall
 {
     match Call::read_record(alloc, bytes) {
         Ok(call) => reported_text(alloc, &call),
-        Err(fault) => ReportedCall::Fault(fault_of_call(fault)),
+        Err(fault) => ReportedCall::Fault(fault_of_text(fault, 1)),
     }
 }
 
@@ -47,28 +47,6 @@ fn reported_text(alloc: Global, of: &Call) -> ReportedCall
         Err(EncodeFault::TooDeep) => ReportedCall::Unfit,
         Err(EncodeFault::TooLarge) => ReportedCall::Unfit,
         Err(EncodeFault::NoMemory) => ReportedCall::Lost,
-    }
-}
-
-// Converts the error in a call into an error in record 1 of a stream.
-fn fault_of_call(fault: RecordFault) -> Fault
-    ensures { result ≡ fault_at_record 1 (refusal_of fault) }
-{
-    match fault {
-        RecordFault::Text(fault) => Fault::Text {
-            at_record: 1,
-            byte: fault.byte,
-            why: fault.why,
-        },
-        RecordFault::Field(fault) => {
-            let FieldFault { path, why } = fault.into_inner();
-            Fault::Field {
-                at_record: 1,
-                path,
-                why,
-            }
-        }
-        RecordFault::NoMemory => Fault::NoMemory,
     }
 }
 
@@ -95,13 +73,7 @@ impl ReportedCall {
                 *size = 0;
                 NO_TEXT
             }
-            ReportedCall::Fault(fault) => {
-                let mut line = ArrayString::<MAX_FAULT_LINE>::new();
-                fault_line(fault, used, &mut line);
-                put_text(line.as_str().as_bytes(), room);
-                *size = line.len() as u64;
-                fault_number(fault)
-            }
+            ReportedCall::Fault(fault) => put_fault(fault, used, size, room),
         }
     }
 }

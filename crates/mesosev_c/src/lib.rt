@@ -20,8 +20,11 @@ mod event_decoder;
 mod event_text;
 mod exports;
 mod handle;
+mod log_exports;
 mod option_numbers;
 mod rows;
+mod session_exports;
+mod session_results;
 mod statuses;
 mod text_decoder;
 mod whole;
@@ -32,12 +35,23 @@ pub use exports::{
     Answer, Answers, Counts, mes_c_call, mes_c_check, mes_c_decoder_finish, mes_c_decoder_free,
     mes_c_decoder_many, mes_c_decoder_new, mes_c_decoder_next,
 };
-pub use handle::{Handle, Slot};
+pub use handle::{Handle, SessionHandle, SessionSlot, Slot};
+pub use log_exports::{
+    mes_c_fits, mes_c_log_broken, mes_c_log_call, mes_c_log_event, mes_c_log_header,
+    mes_c_log_replay, mes_c_write_chunk, mes_c_write_event,
+};
 pub use option_numbers::{BadOption, DecoderOptions, parse_options};
 pub use rows::Row;
+pub use session_exports::{
+    mes_c_session_acknowledge, mes_c_session_broken, mes_c_session_check, mes_c_session_connected,
+    mes_c_session_entries, mes_c_session_framework, mes_c_session_free, mes_c_session_heard,
+    mes_c_session_new, mes_c_session_offer, mes_c_session_offer_at, mes_c_session_offer_count,
+    mes_c_session_owed_at, mes_c_session_owed_count, mes_c_session_said, mes_c_session_subscribe,
+};
+pub use session_results::refusal_number;
 pub use statuses::{
-    BAD_FRAMING, BAD_LIMIT, END, EVENT, MORE, NO_MEMORY, NO_TEXT, SUCCESS, event_number,
-    fault_number,
+    ABSENT, BAD_FRAMING, BAD_LIMIT, END, EVENT, MORE, NO_MEMORY, NO_ROOM, NO_TEXT, SUCCESS,
+    event_number, fault_number,
 };
 pub use text_decoder::{Batch, Reported, TextDecoder};
 pub use whole::{Checked, check_whole};

@@ -27,6 +27,12 @@ pub const END: u32 = 34;
 /// be allocated.
 pub const NO_TEXT: u32 = 35;
 
+/// The status if a text does not fit the caller's buffer. Nothing was applied.
+pub const NO_ROOM: u32 = 36;
+
+/// The status if a session has no framework, or no offer or update with an index or identifier.
+pub const ABSENT: u32 = 37;
+
 /// The status of a record limit that is out of its range.
 pub const BAD_LIMIT: u32 = 100;
 

@@ -3,7 +3,7 @@
 ghost use Rattle.std.specs.Prelude.{◌≡◌, ◌≤◌, ℕ, List, [], length};
 ghost use Rattle.mes_msg.specs.Event.{Event as EventValue};
 ghost use Rattle.mes_msg.specs.Events.{Spells};
-ghost use Rattle.mes_stream.specs.EventData.{HoldsData};
+ghost use Rattle.mes_stream.specs.MessageData.{HoldsData};
 ghost use Rattle.mes_stream.specs.Framings.{InputEnds};
 ghost use Rattle.mes_stream.specs.Stream.{saturated};
 ghost use Rattle.mes_stream.specs.StreamReaders.{StreamRepresents};

@@ -8,7 +8,8 @@ use arrayvec::ArrayString;
 use mes_frame::{DEFAULT_RECORD_LIMIT, MAX_CHUNK_LINE, MAX_TRAILERS, MemorySource};
 use mes_msg::{Event, Limit};
 use mes_stream::{
-    Framing, MAX_COUNT_LINE, MAX_READ, Report, Stop, count_line, read_plain, read_stream,
+    Framing, MAX_COUNT_LINE, MAX_READ, Report, Stop, count_line, read_messages, read_plain,
+    read_stream,
 };
 use std::alloc::Global;
 
@@ -98,6 +99,16 @@ fn read_once(
     match reading.framing {
         Framing::Plain => read_plain(alloc, &mut source, limit, reading.max_reads, events),
         Framing::Chunked => read_stream(alloc, &mut source, limit, reading.max_reads, events),
+        Framing::Lines => {
+            read_messages(
+                alloc,
+                &mut source,
+                reading.framing,
+                limit,
+                reading.max_reads,
+                events,
+            )
+        }
     }
 }
 

@@ -1,4 +1,4 @@
-//! How a program uses the libraries: the examples of docs/LIBRARY.md, run in turn, each after a
+//! How a program uses the libraries: the examples of docs/library/rattle.md, run in turn, each after a
 //! line that names it.
 #![tactic(auto)]
 

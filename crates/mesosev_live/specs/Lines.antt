@@ -2,10 +2,12 @@
 use Rattle.std.specs.Prelude.{◌≡◌, ℕ, ◌+◌, ◌-◌, ◌^◌, ◌<◌, ◌≤◌, ◌⊎◌, Bool, true, false, List, [], ◌++◌, Option, None, Some, codes, decimal, drop, take, length, min}
 use Rattle.std.specs.Io.KnownBytes.{Appends}
 use Rattle.mes_frame.specs.Devices.{Device}
+use Rattle.mes_double_faults.specs.Texts.{fault_text}
+use Rattle.mes_double_faults.specs.declared.fault.Fault.{Fault}
 use Rattle.mesosev_live.specs.declared.limits.TheConstants.{MAX_LINES}
 use Rattle.mesosev_live.specs.declared.lines.Lines.{Lines}
 use Rattle.mesosev_live.specs.declared.lines.StreamEnd.{StreamEnd}
-use Rattle.mesosev_live.specs.declared.lines.StreamEnd.TheVariants.{Replaced, Teardown, Closed, Unread, Stopped}
+use Rattle.mesosev_live.specs.declared.lines.StreamEnd.TheVariants.{Replaced, Teardown, Removed, Closed, Broken, Unread, Stopped}
 
 -- the port on which the master listens
 abbrev pub listening_line : ℕ → List ℕ
@@ -28,13 +30,19 @@ opened_line id = codes "stream " ++ id ++ codes " opened\n"
 abbrev pub end_name : StreamEnd → List ℕ
 end_name Replaced = codes "replaced"
 end_name Teardown = codes "teardown"
+end_name Removed = codes "removed"
 end_name Closed = codes "closed"
+end_name Broken = codes "broken"
 end_name Unread = codes "unread"
 end_name Stopped = codes "stopped"
 
 -- a stream ended
 abbrev pub ended_line : List ℕ → StreamEnd → List ℕ
 ended_line id why = codes "stream " ++ id ++ codes " ended " ++ end_name why ++ codes "\n"
+
+-- a planned fault that happened
+abbrev pub fault_happened_line : Fault → List ℕ
+fault_happened_line fault = codes "fault " ++ fault_text fault ++ codes "\n"
 
 -- the number of lines that were dropped
 abbrev pub dropped_line : ℕ → List ℕ

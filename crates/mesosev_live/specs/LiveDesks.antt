@@ -1,16 +1,19 @@
 -- A live test master as a desk: how it changes, and how it responds.
-use Rattle.std.specs.Prelude.{◌≡◌, ◌≢◌, ◌⊎◌, ℕ, ◌*◌, List, Some}
+use Rattle.std.specs.Prelude.{◌≡◌, ◌≢◌, ◌⊎◌, ℕ, ◌*◌, ◌&&◌, List, Option, None, Some, option_map, if◌then◌else◌, nat_le}
 use Rattle.std.specs.Int.{to_be_bytes, w128}
 use Rattle.mes_msg.specs.Call.{Call}
 use Rattle.mes_msg.specs.Calls.{call}
+use Rattle.mes_msg.specs.Event.{Event}
+use Rattle.mes_msg.specs.Events.{event}
 use Rattle.mes_msg.specs.Texts.{IsTextOf, IsFaultOf}
 use Rattle.mes_msg.specs.RecordFault.{RecordFault}
 use Rattle.mes_msg.specs.RecordFault.TheVariants as record_fault
 use Rattle.mes_double_http.specs.declared.request.Request.{Request}
-use Rattle.mes_double_master.specs.Masters.{handled}
 use Rattle.mes_double_master.specs.Runs.{master_with}
 use Rattle.mes_double_live.specs.Bodies.{empty}
-use Rattle.mes_double_live.specs.Lives.{LiveState, OpensBy}
+use Rattle.mes_frame.specs.declared.limits.TheConstants.{MIN_CHUNK, MAX_CHUNK}
+use Rattle.mes_double_faults.specs.Plans.{Plan}
+use Rattle.mes_double_live.specs.Lives.{LiveState, OpensBy, new_live, call_status, reply_fault}
 use Rattle.mes_double_live.specs.Moving.{Moves, IsSafe}
 use Rattle.mes_double_live.specs.declared.reply.Reply.{Reply}
 use Rattle.mesosev_net.specs.Given.{test_framework}
@@ -30,25 +33,44 @@ pending_of live = live.out.pending
 abbrev pub IsNoCall : List ℕ → Type 0
 IsNoCall body = (fault : RecordFault) × IsFaultOf call body fault × (fault ≢ record_fault.NoMemory)
 
--- The response to a request has the status of the test master's response to the call in its body,
--- or 400 if the body is no call. Only a response with status 200 opens a stream.
+-- the bytes are no text of an event
+abbrev pub IsNoEvent : List ℕ → Type 0
+IsNoEvent body = (fault : RecordFault) × IsFaultOf event body fault × (fault ≢ record_fault.NoMemory)
+
+-- The body of a request to `/fault` is an event, which the test master takes as one of standard input;
+-- or it is none, and nothing is changed.
+abbrev pub TakesEvent : LiveState → List ℕ → LiveState → ℕ → Type 0
+TakesEvent old body new status =
+    ((e : Event) × IsTextOf event body e × Moves old.master new.master × (status ≡ 202))
+    ⊎ (IsNoEvent body × (new ≡ old) × (status ≡ 400))
+
+-- The response to a request has the status of the test master's response to the call in its body, or
+-- that of the call's fault, or 400 if the body is no call. The fault says what happens to the
+-- connection. Only a response with status 200 opens a stream.
 abbrev pub RespondsTo : LiveState → Request → LiveState → Reply → Type 0
 RespondsTo old request new reply =
-    (((c : Call) × IsTextOf call request.body.items c × (reply.status ≡ (handled old.master c request.stream).status))
-    ⊎ (IsNoCall request.body.items × (reply.status ≡ 400)))
+    (((c : Call) × IsTextOf call request.body.items c × (reply.status ≡ call_status old c request.stream) × (reply.fault ≡ reply_fault old))
+    ⊎ (IsNoCall request.body.items × (reply.status ≡ 400) × (reply.fault ≡ None)))
     × OpensBy reply.opened reply.status
 
 -- the ids of the streams of one run
 abbrev pub run_ids : List (List ℕ)
 run_ids = ids_from (to_be_bytes w128 FIRST_STREAM) MAX_STREAMS
 
--- a new test master of the framework `F1`, with this number of seconds between two HEARTBEATs and
--- chunks of at most `most` bytes
-abbrev pub started : ℕ → ℕ → LiveState
-started heartbeat most = record {
-  master = master_with test_framework run_ids (Some (heartbeat * 1000000));
-  out = empty most;
-}
+-- the chunk size that a fault sets, if it is in its range; or else `most`
+abbrev pub size_by : Option ℕ → ℕ → ℕ
+size_by None most = most
+size_by (Some size) most = if nat_le MIN_CHUNK size && nat_le size MAX_CHUNK then size else most
+
+-- the time for which a task runs in milliseconds, from seconds; `None` is for ever
+abbrev pub finish_time : Option ℕ → Option ℕ
+finish_time seconds = option_map (λ s. s * 1000) seconds
+
+-- a new test master of the framework `F1`, with this number of seconds between two HEARTBEATs, tasks
+-- that finish after this number of seconds, chunks of at most `most` bytes, and these planned faults
+abbrev pub started : ℕ → Option ℕ → ℕ → Plan → LiveState
+started heartbeat finish_after most plan =
+    new_live (master_with test_framework run_ids (Some (heartbeat * 1000000))) (finish_time finish_after) (empty most plan)
 
 -- What the test master promises after a run, whatever clients, sockets, input and time did: it is
 -- what deeds of the new one lead to. No task was launched twice, no offer was taken twice, and the

@@ -1,21 +1,25 @@
-//! One connection of the live test master.
+//! One connection of the live test master. `paging.rt` has the requests for pages.
 
 ghost use Rattle.std.specs.Prelude.{◌≡◌, ◌≤◌, ◌==◌, ℕ, List, [], ◌∷◌, ◌++◌, length, OnOk, IfOk};
-ghost use Rattle.mes_double_http.specs.Faults.{response_status};
 ghost use Rattle.mes_double_http.specs.Texts.{response_text};
 ghost use Rattle.mesosev_live.specs.Desks.{Keeps};
 ghost use Rattle.mesosev_live.specs.Runs.{Steps, bytes_of};
 ghost use Rattle.mesosev_live.specs.Runs.Step.{comes, writes, ends};
-ghost use Rattle.mesosev_live.specs.Serving.{persistence_after, phase_after, response_head, response_phase, refusal_head, EndsRequests, ServesNext, ServesAll};
+ghost use Rattle.mesosev_live.specs.Serving.{head_by, persistence_after, phase_after, phase_by, response_head, response_phase, refusal_head, EndsRequests, ServesNext, ServesAll};
 ghost use Rattle.mesosev_live.specs.Transfers.{IsWithin, GoesFrom};
 ghost use Rattle.mesosev_live.specs.declared.connection.Phase.TheVariants.{Serving, Ending};
+ghost use Rattle.mesosev_live.specs.declared.connection.Served.TheVariants.{Refused};
 
+mod paging;
+
+use self::paging::{CALL_START, begins_page};
 use crate::desk::{Answered, Desk};
-use crate::limits::{LINGER, MAX_ENDING, MAX_UNSENT, READS_AT_ONCE};
+use crate::limits::{LINGER, MAX_ENDING, MAX_UNSENT, MILLIS, READS_AT_ONCE};
 use crate::outgoing::Outgoing;
 use crate::transfer::{Came, Went, discard_ready, put_ready, take_ready};
 use http::StatusCode;
-use mes_double_http::{HeadFault, NextRequest, Persistence, RequestReader};
+use mes_double_faults::CallFault;
+use mes_double_http::{NextPage, NextRequest, Persistence, RequestReader};
 use mes_double_live::{LiveFault, Reply};
 use mes_frame::FromStd;
 use mio::net::TcpStream;
@@ -52,6 +56,8 @@ pub(crate) struct Connection {
     is_blocked: bool,
     /// The time at which a connection that is ending is closed, even if not all was written.
     closes_unwritten: Option<u64>,
+    /// The time before which nothing is written, because a response is late.
+    writes_from: Option<u64>,
 }
 
 /// A request that was served.
@@ -61,6 +67,10 @@ pub(crate) enum Served {
     Answered(Answered),
     /// The request was refused with this status, or without a response.
     Refused(Option<StatusCode>),
+    /// The page or the state was shown.
+    Shown,
+    /// The request to `/fault` was answered with this status.
+    Demanded(StatusCode),
 }
 
 impl Connection {
@@ -78,6 +88,7 @@ impl Connection {
             has_ended: false,
             is_blocked: false,
             closes_unwritten: None,
+            writes_from: None,
         }
     }
 
@@ -106,6 +117,53 @@ impl Connection {
         ensures { self.new ≡ record self.old { is_blocked = is_blocked } }
     {
         self.is_blocked = is_blocked;
+    }
+
+    /// Returns whether nothing may be written at the time `now`, because a response is late.
+    pub fn is_late(&self, now: u64) -> bool {
+        match self.writes_from {
+            Some(from) => now < from,
+            None => false,
+        }
+    }
+
+    /// Returns the time from which a late response may be written.
+    pub fn writes_from(&self) -> Option<u64> {
+        self.writes_from
+    }
+
+    /// Ends that a response is late, if its time has come. Returns whether it has.
+    pub fn end_delay(&mut self, now: u64) -> bool {
+        if self.writes_from.is_none() || self.is_late(now) {
+            return false;
+        }
+        self.writes_from = None;
+        true
+    }
+
+    /// Has nothing be written for this number of seconds at least.
+    fn delay(&mut self, now: u64, seconds: u32)
+        ensures requests { self.new.requests ≡ self.old.requests }
+        ensures out { self.new.out ≡ self.old.out }
+        ensures phase { self.new.phase ≡ self.old.phase }
+    {
+        let from = now.saturating_add(u64::from(seconds).saturating_mul(MILLIS));
+        self.writes_from = match self.writes_from {
+            Some(later) => Some(later.max(from)),
+            None => Some(from),
+        };
+    }
+
+    /// Returns whether bytes of a call can be read. Those of a request for a page do not count.
+    pub fn has_call(&self) -> bool {
+        if self.phase != Phase::Serving || self.has_ended {
+            return false;
+        }
+        let mut first = [0; CALL_START];
+        match self.socket.peek(&mut first) {
+            Ok(count) => count > 0 && !begins_page(&first[..count.min(CALL_START)]),
+            Err(_) => false,
+        }
     }
 
     /// Notes that the client sends no more bytes.
@@ -154,20 +212,22 @@ impl Connection {
         }
     }
 
-    /// Responds to the requests that have come, in order, and appends them to `served`.
+    /// Responds to the requests that have come, in order, and appends them to `served`. The time is
+    /// `now`.
     pub fn serve<D: Desk>(
         &mut self,
         desk: &mut D,
+        now: u64,
         served: &mut Vec<Served>,
     ) -> Result<(), LiveFault>
         requires { served.old.items ≡ [] }
         ensures kept { Keeps D.follows desk.old desk.new }
         // All requests that came are served, in order, each once and with its own response.
-        ensures all { OnOk result (ServesAll D.answers self.old desk.old served.new.items self.new
-            desk.new) }
+        ensures all { OnOk result (ServesAll D.answers D.shows D.takes self.old desk.old
+            served.new.items self.new desk.new) }
     {
         for _ in 0..u64::MAX {
-            let Some(turn) = self.serve_next(desk)? else {
+            let Some(turn) = self.serve_next(desk, now)? else {
                 return Ok(());
             };
             keep(served, turn)?;
@@ -177,34 +237,90 @@ impl Connection {
 
     /// Takes the next request, if the connection serves requests and a whole one is there, and
     /// appends the response.
-    fn serve_next<D: Desk>(&mut self, desk: &mut D) -> Result<Option<Served>, LiveFault>
+    fn serve_next<D: Desk>(&mut self, desk: &mut D, now: u64) -> Result<Option<Served>, LiveFault>
         ensures kept { Keeps D.follows desk.old desk.new }
-        ensures next { IfOk result (ServesNext D.answers self.old desk.old self.new desk.new) }
+        ensures next { IfOk result (ServesNext D.answers D.shows D.takes self.old desk.old
+            self.new desk.new) }
     {
         if self.phase != Phase::Serving {
             return Ok(None);
         }
+        self.serve_request(desk, now)
+    }
+
+    /// Takes the next request, if a whole one is there, and appends the response.
+    fn serve_request<D: Desk>(
+        &mut self,
+        desk: &mut D,
+        now: u64,
+    ) -> Result<Option<Served>, LiveFault>
+        requires { self.old.phase ≡ Serving }
+        ensures kept { Keeps D.follows desk.old desk.new }
+        ensures next { IfOk result (ServesNext D.answers D.shows D.takes self.old desk.old self.new
+            desk.new) }
+    {
+        match self.requests.next_page() {
+            NextPage::Nothing => self.serve_call(desk, now),
+            NextPage::More => Ok(None),
+            NextPage::Whole(request, persistence) => {
+                Ok(Some(self.show(desk, &request, persistence)?))
+            }
+            NextPage::Refused(status) => Ok(Some(self.refuse(Some(status))?)),
+            NextPage::NoMemory => Ok(Some(self.refuse(None)?)),
+        }
+    }
+
+    /// Takes the next call, if a whole one is there, and appends the response.
+    fn serve_call<D: Desk>(&mut self, desk: &mut D, now: u64) -> Result<Option<Served>, LiveFault>
+        requires { self.old.phase ≡ Serving }
+        ensures kept { Keeps D.follows desk.old desk.new }
+        ensures next { IfOk result (ServesNext D.answers D.shows D.takes self.old desk.old self.new
+            desk.new) }
+    {
         match self.requests.next() {
             NextRequest::More => Ok(None),
             NextRequest::Whole(request, persistence) => {
                 let answered = desk.answer(&request)?;
-                self.respond(&answered.reply, persistence)?;
+                self.respond(&answered.reply, persistence, now)?;
                 Ok(Some(Served::Answered(answered)))
             }
-            NextRequest::Fault(fault) => {
-                self.refuse(fault)?;
-                Ok(Some(Served::Refused(fault.response())))
-            }
+            NextRequest::Fault(fault) => Ok(Some(self.refuse(fault.response())?)),
         }
     }
 
-    /// Appends the head of the response to a call.
-    fn respond(&mut self, reply: &Reply, persistence: Persistence) -> Result<(), LiveFault>
+    /// Appends the head of the response to a call, by the fault of the call: late, or none.
+    fn respond(
+        &mut self,
+        reply: &Reply,
+        persistence: Persistence,
+        now: u64,
+    ) -> Result<(), LiveFault>
         ensures requests { self.new.requests ≡ self.old.requests }
         ensures out { OnOk result
             (self.new.out ≡ self.old.out ++ response_head reply.now persistence) }
         ensures phase { OnOk result
             (self.new.phase ≡ response_phase reply.now persistence self.old.phase) }
+    {
+        match reply.fault {
+            Some(CallFault::Unanswered | CallFault::Reset) => {
+                self.phase = Phase::Ending;
+                Ok(())
+            }
+            Some(CallFault::Slow(seconds)) => {
+                self.delay(now, seconds);
+                self.push_response(reply, persistence)
+            }
+            _ => self.push_response(reply, persistence),
+        }
+    }
+
+    /// Appends the head of the response to a call.
+    fn push_response(&mut self, reply: &Reply, persistence: Persistence) -> Result<(), LiveFault>
+        ensures requests { self.new.requests ≡ self.old.requests }
+        ensures out { OnOk result
+            (self.new.out ≡ self.old.out ++ head_by reply.now.opened reply.now.status persistence) }
+        ensures phase { OnOk result (self.new.phase
+            ≡ phase_by reply.now.opened reply.now.status persistence self.old.phase) }
     {
         match &reply.opened {
             Some(id) => {
@@ -234,18 +350,19 @@ impl Connection {
         Ok(())
     }
 
-    /// Appends the response to a request that is refused, if there is one, and ends the connection.
-    fn refuse(&mut self, fault: HeadFault) -> Result<(), LiveFault>
+    /// Appends the response to a request that is refused, with this status if there is one, and ends
+    /// the connection.
+    fn refuse(&mut self, status: Option<StatusCode>) -> Result<Served, LiveFault>
+        ensures served { IfOk result (λ turn. turn ≡ Refused status) }
         ensures requests { self.new.requests ≡ self.old.requests }
-        ensures out { OnOk result
-            (self.new.out ≡ self.old.out ++ refusal_head (response_status fault)) }
+        ensures out { OnOk result (self.new.out ≡ self.old.out ++ refusal_head status) }
         ensures phase { OnOk result (self.new.phase ≡ Ending) }
     {
         self.phase = Phase::Ending;
-        match fault.response() {
-            Some(status) => self.push_status(status, Persistence::Close),
-            None => Ok(()),
+        if let Some(status) = status {
+            self.push_status(status, Persistence::Close)?;
         }
+        Ok(Served::Refused(status))
     }
 
     /// Refuses the request that the end of the connection cuts off, and ends the connection.
@@ -253,10 +370,7 @@ impl Connection {
         ensures { IfOk result (EndsRequests self.old self.new) }
     {
         match self.requests.fault_at_end() {
-            Some(fault) => {
-                self.refuse(fault)?;
-                Ok(Some(Served::Refused(fault.response())))
-            }
+            Some(fault) => Ok(Some(self.refuse(fault.response())?)),
             None => {
                 self.phase = Phase::Ending;
                 Ok(None)
@@ -333,7 +447,7 @@ impl Connection {
     pub fn is_due(&mut self, now: u64) -> bool {
         match self.phase {
             Phase::Draining(until) => self.has_ended || until <= now,
-            Phase::Ending => self.is_ending_for_too_long(now),
+            Phase::Ending => !self.is_late(now) && self.is_ending_for_too_long(now),
             _ => false,
         }
     }

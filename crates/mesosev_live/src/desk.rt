@@ -6,6 +6,7 @@ ghost use Rattle.mes_double_live.specs.declared.reply.Reply.{Reply as ReplyValue
 ghost use Rattle.mesosev_live.specs.Desks.{Keeps};
 
 use http::StatusCode;
+use mes_double_faults::Fault;
 use mes_double_http::{Request, StreamId};
 use mes_double_live::{EndedStream, LiveFault, Reply};
 use mes_msg::Event;
@@ -31,14 +32,41 @@ pub trait Desk {
     /// The bytes of the current stream that are not written.
     ghost pending: { Self → List ℕ };
 
+    /// The text of a state.
+    ghost shows: { Self → List ℕ };
+
+    /// Relates a state and the body of a request to `/fault` to the next state and the status of the
+    /// response.
+    ghost takes: { Self → List ℕ → Self → ℕ → Type 0 };
+
     /// Handles a request.
     fn answer(&mut self, request: &Request) -> Result<Answered, LiveFault>
         ensures kept { Keeps follows self.old self.new }
         ensures by { IfOk result (λ a. answers self.old request.now self.new a.reply) };
 
+    /// Returns whether the connection of the next call is to be reset.
+    fn resets_next(&self) -> bool;
+
+    /// Counts a call whose connection is reset before the call is read.
+    fn reset(&mut self) -> Result<(), LiveFault>
+        ensures { Keeps follows self.old self.new };
+
+    /// Returns the planned faults that happened since the last call of this method, in order.
+    fn take_happened(&mut self) -> Vec<Fault>
+        ensures { Keeps follows self.old self.new };
+
     /// Takes an event of standard input.
     fn told(&mut self, event: Event) -> Result<(), LiveFault>
         ensures { Keeps follows self.old self.new };
+
+    /// Takes an event of the body of a request. Returns the status of the response.
+    fn demand(&mut self, body: &[u8]) -> Result<StatusCode, LiveFault>
+        ensures kept { Keeps follows self.old self.new }
+        ensures by { IfOk result (λ status. takes self.old body.now self.new status) };
+
+    /// Returns the state as a JSON text.
+    fn state(&self) -> Result<Vec<u8>, LiveFault>
+        ensures { IfOk result (λ text. text.items ≡ shows self.now) };
 
     /// Notes the time.
     fn passed(&mut self, now: u64) -> Result<(), LiveFault>
@@ -60,6 +88,9 @@ pub trait Desk {
     fn wrote(&mut self, count: usize)
         requires { count ≤ length (pending self.old) }
         ensures { Keeps follows self.old self.new };
+
+    /// Returns whether the connection of the current stream is to be closed now.
+    fn is_broken_off(&self) -> bool;
 
     /// Returns the bytes of the current stream that are not written.
     fn pending(&self) -> &[u8]

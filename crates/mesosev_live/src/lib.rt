@@ -5,7 +5,7 @@
 //! subscribed scheduler open, and takes events from standard input while it runs. What is sent and
 //! answered is decided by a [`Desk`]; `mes_double_live::Live` is one.
 //!
-//!     let outcome = master(rt, &options, input, out);
+//!     let outcome = master(rt, &options, &plan, input, out);
 //!     let status = finish(outcome, out.is_closed(), err);
 //!
 //! - `server`: the loop over ready sockets, and the state that it changes.
@@ -32,6 +32,7 @@ mod lines;
 mod live_desk;
 mod live_master;
 mod outgoing;
+mod page;
 mod places;
 mod printing;
 mod server;

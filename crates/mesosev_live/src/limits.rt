@@ -1,5 +1,8 @@
 //! The limits of the live test master.
 
+/// The number of milliseconds in a second.
+pub(crate) const MILLIS: u64 = 1_000;
+
 /// The number of connections that are served at once. Further ones wait in the backlog.
 pub const MAX_CONNECTIONS: usize = 64;
 

@@ -1,12 +1,13 @@
 //! The printed lines of the live test master.
 
 ghost use Rattle.std.specs.Prelude.{◌≡◌, ◌≤◌, [], length, drop};
-ghost use Rattle.mesosev_live.specs.Lines.{listening_line, status_name, answered_line, opened_line, ended_line, end_name, dropped_line, waiting, StoresIf, Pushes, CountsDropped, Writes};
+ghost use Rattle.mesosev_live.specs.Lines.{listening_line, status_name, answered_line, opened_line, ended_line, end_name, fault_happened_line, dropped_line, waiting, StoresIf, Pushes, CountsDropped, Writes};
 
 use crate::limits::MAX_LINES;
 use arrayvec::ArrayString;
 use http::StatusCode;
 use itoa::Buffer;
+use mes_double_faults::Fault;
 use mes_double_http::StreamId;
 use std::alloc::Global;
 
@@ -20,8 +21,12 @@ pub(crate) enum StreamEnd {
     Replaced,
     /// The framework was torn down.
     Teardown,
+    /// The framework was removed by a fault.
+    Removed,
     /// The client closed the connection, or the connection failed.
     Closed,
+    /// Standard input had the stream break.
+    Broken,
     /// Too many bytes of the stream were not read.
     Unread,
     /// The run ended.
@@ -36,7 +41,9 @@ impl StreamEnd {
         match self {
             StreamEnd::Replaced => "replaced",
             StreamEnd::Teardown => "teardown",
+            StreamEnd::Removed => "removed",
             StreamEnd::Closed => "closed",
+            StreamEnd::Broken => "broken",
             StreamEnd::Unread => "unread",
             StreamEnd::Stopped => "stopped",
         }
@@ -101,6 +108,17 @@ pub(crate) fn ended_line(id: &StreamId, why: StreamEnd) -> ArrayString<MAX_LINE>
     line.push_str(id.as_str());
     line.push_str(" ended ");
     line.push_str(why.name());
+    line.push_str("\n");
+    line
+}
+
+/// Returns the line of a planned fault that happened.
+pub(crate) fn fault_happened_line(fault: &Fault) -> ArrayString<MAX_LINE>
+    ensures { result.bytes ≡ fault_happened_line fault.now }
+{
+    let mut line = ArrayString::new();
+    line.push_str("fault ");
+    line.push_str(fault.text().as_str());
     line.push_str("\n");
     line
 }

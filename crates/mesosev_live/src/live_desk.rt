@@ -4,19 +4,26 @@ ghost use Rattle.std.specs.Prelude.{◌≡◌};
 
 use crate::desk::{Answered, Desk};
 use http::StatusCode;
+use mes_double_faults::Fault;
 use mes_double_http::{Request, StreamId};
 use mes_double_live::{EndedStream, Live, LiveFault, Reply};
+use mes_double_state::state_text;
 use mes_msg::{Call, Event, RecordFault};
 use mesosev_serve::call_name;
 
 impl Desk for Live {
-    ghost use Rattle.mesosev_live.specs.LiveDesks.{MovesTo, RespondsTo, pending_of};
+    ghost use Rattle.mes_double_state.specs.States.{state_text};
+    ghost use Rattle.mesosev_live.specs.LiveDesks.{MovesTo, RespondsTo, TakesEvent, pending_of};
 
     ghost follows = { MovesTo };
 
     ghost answers = { RespondsTo };
 
     ghost pending = { pending_of };
+
+    ghost shows = { state_text };
+
+    ghost takes = { TakesEvent };
 
     #[tactic(auto, using(crate::proofs::LiveDeskLemmas::keeps_moves))]
     fn answer(&mut self, request: &Request) -> Result<Answered, LiveFault> {
@@ -37,9 +44,39 @@ impl Desk for Live {
         })
     }
 
+    fn resets_next(&self) -> bool {
+        Live::resets_next(self)
+    }
+
+    #[tactic(auto, using(crate::proofs::LiveDeskLemmas::keeps_same))]
+    fn reset(&mut self) -> Result<(), LiveFault> {
+        Live::reset(self)
+    }
+
+    #[tactic(auto, using(crate::proofs::LiveDeskLemmas::keeps_taken))]
+    fn take_happened(&mut self) -> Vec<Fault> {
+        Live::take_happened(self)
+    }
+
     #[tactic(auto, using(crate::proofs::LiveDeskLemmas::keeps_moves))]
     fn told(&mut self, event: Event) -> Result<(), LiveFault> {
         Live::told(self, event)
+    }
+
+    #[tactic(auto, using(crate::proofs::LiveDeskLemmas::keeps_moves))]
+    fn demand(&mut self, body: &[u8]) -> Result<StatusCode, LiveFault> {
+        match Event::read_record(self.alloc(), body) {
+            Ok(event) => {
+                Live::told(self, event)?;
+                Ok(StatusCode::ACCEPTED)
+            }
+            Err(RecordFault::NoMemory) => Err(LiveFault::NoMemory),
+            Err(_) => Ok(StatusCode::BAD_REQUEST),
+        }
+    }
+
+    fn state(&self) -> Result<Vec<u8>, LiveFault> {
+        Ok(state_text(self.alloc(), self)?)
     }
 
     #[tactic(auto, using(crate::proofs::LiveDeskLemmas::keeps_moves))]
@@ -69,6 +106,10 @@ impl Desk for Live {
 
     fn pending(&self) -> &[u8] {
         Live::pending(self)
+    }
+
+    fn is_broken_off(&self) -> bool {
+        Live::is_broken_off(self)
     }
 
     fn stream(&self) -> Option<&StreamId> {

@@ -2,16 +2,18 @@
 
 ghost use Rattle.std.specs.Prelude.{◌≡◌, ◌*◌, Some, IfOk};
 ghost use Rattle.mesosev_live.specs.Desks.{Keeps};
-ghost use Rattle.mesosev_live.specs.LiveDesks.{KeepsPromises, started};
+ghost use Rattle.mes_double_faults.specs.Plans.{chunk_size};
+ghost use Rattle.mesosev_live.specs.LiveDesks.{KeepsPromises, finish_time, size_by, started};
 ghost use Rattle.mesosev_live.specs.Stops.{EndsRun, stop_text};
 
 use crate::desk::Desk;
 use crate::input::Input;
-use crate::limits::MAX_STREAMS;
+use crate::limits::{MAX_STREAMS, MILLIS};
 use crate::places::Places;
 use crate::printing::{Printer, is_terminal};
 use crate::server::{MAX_EVENTS, OUTPUT, Server, ServerStop};
 use arrayvec::ArrayString;
+use mes_double_faults::FaultPlan;
 use mes_double_live::{Live, LiveFault, Settings};
 use mes_double_master::Master;
 use mes_frame::{Sink, Source};
@@ -28,9 +30,6 @@ use std::io;
 use std::net::{Net, SocketAddr};
 use std::time::{Clock, Instant};
 use uuid::Uuid;
-
-/// The number of milliseconds in a second.
-const MILLIS: u64 = 1_000;
 
 /// The number of microseconds in a second.
 const MICROS: u64 = 1_000_000;
@@ -54,7 +53,7 @@ pub struct MasterOptions {
     pub finish_after: Option<u32>,
     /// The time for which the master runs; `None`: without an end.
     pub seconds: Option<u32>,
-    /// The largest chunk of a stream.
+    /// The largest chunk of a stream, if no fault sets another size.
     pub most: ChunkSize,
     /// Ends the run after a TEARDOWN.
     pub once: bool,
@@ -71,14 +70,16 @@ pub struct EndedRun<D> {
 
 /// Runs a live test master of the framework `F1` on 127.0.0.1. `input` and `out` must be standard
 /// input and standard output of the process: the system is asked by their descriptors when they can
-/// be read and written without blocking.
+/// be read and written without blocking. `plan` has the faults of events and calls.
 ///
-/// Prints the port first, then a line for each request and for each stream opened or ended. A line
+/// Prints the port first, then a line for each request, for each stream opened or ended, and for each
+/// fault of the plan that happens. A line
 /// that cannot be written without blocking is dropped; later a line has the number of the lines
 /// dropped. A fault of the input ends the run with its line and the status `Fault`.
 pub fn master<R, I: Source, O: Sink>(
     rt: &R,
     options: &MasterOptions,
+    plan: &FaultPlan,
     input: &mut I,
     out: &mut O,
 ) -> RunOutcome
@@ -87,7 +88,7 @@ where
     // The status is that of a success or a fault, or the output failed.
     ensures { EndsRun result }
 {
-    match run_live(rt, options, input, out) {
+    match run_live(rt, options, plan, input, out) {
         Ok(run) => run.outcome,
         Err(_) => out_of_memory(out),
     }
@@ -98,6 +99,7 @@ where
 pub fn run_live<R, I: Source, O: Sink>(
     rt: &R,
     options: &MasterOptions,
+    plan: &FaultPlan,
     input: &mut I,
     out: &mut O,
 ) -> Result<EndedRun<Live>, NoMemory>
@@ -108,7 +110,7 @@ where
     ensures promises { IfOk result (λ run. KeepsPromises options.now.heartbeat run.desk) }
     ensures ends { IfOk result (λ run. EndsRun run.outcome) }
 {
-    let live = new_live(rt.alloc(), options)?;
+    let live = new_live(rt.alloc(), options, plan)?;
     Ok(serve_desk(rt, options, live, input, out))
 }
 
@@ -136,22 +138,40 @@ where
     serve(rt, options, desk, listener, poll, input, out)
 }
 
-/// Returns a live test master with these options.
-fn new_live(alloc: Global, options: &MasterOptions) -> Result<Live, NoMemory>
-    // The framework `F1`, the ids of the streams, the interval that SUBSCRIBED announces, and the
-    // size of the chunks. The other settings decide only when something is sent.
-    ensures { IfOk result (λ live. live ≡ started options.now.heartbeat options.now.most) }
+/// Returns a live test master with these options and faults.
+fn new_live(alloc: Global, options: &MasterOptions, plan: &FaultPlan) -> Result<Live, NoMemory>
+    // The framework `F1`, the ids of the streams, the interval that SUBSCRIBED announces, the time
+    // for which a task runs, the size of the chunks, and the faults. The other settings decide only
+    // when something is sent.
+    ensures { IfOk result (λ live. live
+        ≡ started options.now.heartbeat options.now.finish_after
+        (size_by (chunk_size plan.now) options.now.most) plan.now) }
 {
+    let most = chunk_of(options.most, plan);
+    let plan = plan.copy(alloc)?;
     let ids = stream_ids(alloc, Uuid::from_u128(FIRST_STREAM), MAX_STREAMS)?;
     let framework = framework_id(alloc)?;
     let master = Master::with_interval(alloc, framework, ids, interval_of(options.heartbeat));
     let settings = Settings {
         heartbeat: millis_of(options.heartbeat),
         resend: resend_millis(options.resend),
-        finish_after: options.finish_after.map(millis_of),
-        most: options.most.get(),
+        finish_after: finish_time(options.finish_after),
+        most: most.get(),
     };
-    Ok(Live::new(alloc, master, &settings))
+    Ok(Live::new(alloc, master, &settings, plan))
+}
+
+/// Returns the chunk size that a fault sets, if it is one; or else `most`.
+fn chunk_of(most: ChunkSize, plan: &FaultPlan) -> ChunkSize
+    ensures { result ≡ size_by (chunk_size plan.now) most }
+{
+    let Some(size) = plan.chunk() else {
+        return most;
+    };
+    match ChunkSize::new(size) {
+        Some(size) => size,
+        None => most,
+    }
 }
 
 /// Returns the interval between two HEARTBEATs as SUBSCRIBED announces it.
@@ -170,8 +190,20 @@ fn resend_millis(seconds: u32) -> Option<u64> {
     }
 }
 
-fn millis_of(seconds: u32) -> u64 {
-    u64::from(seconds).saturating_mul(MILLIS)
+/// Returns the time for which a task runs in milliseconds; `None`: without an end.
+fn finish_time(seconds: Option<u32>) -> Option<u64>
+    ensures { result ≡ finish_time seconds }
+{
+    match seconds {
+        Some(seconds) => Some(millis_of(seconds)),
+        None => None,
+    }
+}
+
+fn millis_of(seconds: u32) -> u64
+    ensures { result ≡ seconds * 1000 }
+{
+    u64::from(seconds) * MILLIS
 }
 
 /// Serves on a socket.

@@ -1,10 +1,10 @@
 //! The bytes that a connection has to write.
 
 ghost use Rattle.std.specs.Prelude.{◌≡◌, ◌≤◌, [], ◌++◌, length, drop, OnOk, OnErr};
-ghost use Rattle.mes_double_http.specs.Texts.{ok_text, response_text};
+ghost use Rattle.mes_double_http.specs.Texts.{ok_text, page_head, response_text};
 
 use http::StatusCode;
-use mes_double_http::{Persistence, StreamId, push_ok, push_status};
+use mes_double_http::{PageMedia, Persistence, StreamId, push_ok, push_page_head, push_status};
 use std::alloc::{AllocError, Global};
 use std::marker::Model;
 
@@ -77,6 +77,22 @@ impl Outgoing {
     {
         self.free_written();
         push_ok(&mut self.bytes, id)
+    }
+
+    /// Appends a response with status 200 and this body. Errors: an allocation failed; the head may
+    /// then be appended, without the body.
+    pub fn push_page(
+        &mut self,
+        media: PageMedia,
+        body: &[u8],
+        persistence: Persistence,
+    ) -> Result<(), AllocError>
+        ensures { OnOk result (self.new
+            ≡ self.old ++ page_head persistence media (length body.now) ++ body.now) }
+    {
+        self.free_written();
+        push_page_head(&mut self.bytes, media, body.len(), persistence)?;
+        self.bytes.extend_from_slice(body)
     }
 
     /// Notes that the first `count` pending bytes were written.

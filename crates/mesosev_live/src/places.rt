@@ -62,6 +62,14 @@ impl Places {
         }
     }
 
+    /// Returns whether no bytes of responses wait on a connection.
+    pub fn is_written(&mut self, place: usize) -> bool {
+        match self.get(place) {
+            Some(connection) => connection.is_written(),
+            None => true,
+        }
+    }
+
     /// Returns whether too many bytes of responses wait on a connection.
     pub fn is_full(&mut self, place: usize) -> bool {
         match self.get(place) {
@@ -114,6 +122,33 @@ impl Places {
             }
         }
         first
+    }
+
+    /// Returns the first time from which a late response may be written.
+    pub fn first_late(&self) -> Option<u64> {
+        let mut first: Option<u64> = None;
+        for place in &self.connections {
+            if let Some(connection) = place {
+                first = earlier(first, connection.writes_from());
+            }
+        }
+        first
+    }
+
+    /// Ends that a response on a connection is late, if its time has come. Returns whether it has.
+    pub fn end_delay(&mut self, place: usize, now: u64) -> bool {
+        match self.get(place) {
+            Some(connection) => connection.end_delay(now),
+            None => false,
+        }
+    }
+
+    /// Returns whether bytes of a call can be read on a connection.
+    pub fn has_call(&mut self, place: usize) -> bool {
+        match self.get(place) {
+            Some(connection) => connection.has_call(),
+            None => false,
+        }
     }
 
     /// Returns whether no connection has bytes to write, or waits to be closed.

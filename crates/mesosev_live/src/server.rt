@@ -10,7 +10,7 @@ ghost use Rattle.mesosev_live.specs.Desks.{Keeps};
 use crate::desk::Desk;
 use crate::input::Input;
 use crate::limits::{FINISH, MAX_CONNECTIONS, MAX_STREAM_UNREAD};
-use crate::lines::{StreamEnd, ended_line, listening_line};
+use crate::lines::{StreamEnd, ended_line, fault_happened_line, listening_line};
 use crate::places::Places;
 use crate::printing::Printer;
 use crate::time::{earlier, is_past, millis};
@@ -93,6 +93,7 @@ impl<'a, D: Desk, I: Source, O: Sink> Server<'a, D, I, O> {
     {
         for _ in 0..u64::MAX {
             self.desk.passed(self.now)?;
+            self.handle_late()?;
             self.finish_round();
             if is_past(until, self.now) || once && self.is_torn_down {
                 return Ok(());
@@ -113,16 +114,19 @@ impl<'a, D: Desk, I: Source, O: Sink> Server<'a, D, I, O> {
     ) -> Result<(), ServerStop>
         ensures { self.new.desk ≡ self.old.desk }
     {
-        let due = earlier(
-            until,
-            earlier(self.desk.first_due(), self.places.first_close()),
-        );
+        let due = earlier(until, self.first_due());
         let timeout = due.map(|due| Duration::from_millis(due.saturating_sub(self.now)));
         if self.poll.poll(events, timeout).is_err() {
             return Err(ServerStop::Poll);
         }
         self.now = self.now.max(millis(start.elapsed(rt)));
         Ok(())
+    }
+
+    /// Returns the first time at which something is due.
+    fn first_due(&self) -> Option<u64> {
+        let of_places = earlier(self.places.first_close(), self.places.first_late());
+        earlier(self.desk.first_due(), of_places)
     }
 
     /// Handles all that is ready.
@@ -219,11 +223,34 @@ impl<'a, D: Desk, I: Source, O: Sink> Server<'a, D, I, O> {
     fn finish_round(&mut self)
         ensures { Keeps D.follows self.old.desk self.new.desk }
     {
+        self.print_happened();
         self.write_current();
+        self.close_broken();
         self.close_unread();
         self.places.close_due(self.now);
         self.accept_waiting();
         self.printer.print(self.poll.registry(), OUTPUT);
+    }
+
+    /// Writes the connections whose late responses may be written now, and reads them: a connection
+    /// with too many bytes to write was not read, and the system does not report it again.
+    fn handle_late(&mut self) -> Result<(), LiveFault>
+        ensures { Keeps D.follows self.old.desk self.new.desk }
+    {
+        for place in 0..MAX_CONNECTIONS {
+            self.handle_if_due(place)?;
+        }
+        Ok(())
+    }
+
+    fn handle_if_due(&mut self, place: usize) -> Result<(), LiveFault>
+        ensures { Keeps D.follows self.old.desk self.new.desk }
+    {
+        if self.places.end_delay(place, self.now) {
+            self.handle_ready(place, false)
+        } else {
+            Ok(())
+        }
     }
 
     /// Writes the current stream, if there is one.
@@ -232,6 +259,20 @@ impl<'a, D: Desk, I: Source, O: Sink> Server<'a, D, I, O> {
     {
         if let Some(place) = self.streaming {
             self.write_unless_blocked(place);
+        }
+    }
+
+    /// Ends the stream if it is to break, once all that was sent before is written.
+    fn close_broken(&mut self)
+        ensures { Keeps D.follows self.old.desk self.new.desk }
+    {
+        if !self.desk.is_broken_off() {
+            return;
+        }
+        if let Some(place) = self.streaming
+            && self.places.is_written(place)
+        {
+            self.close(place, StreamEnd::Broken);
         }
     }
 
@@ -326,6 +367,15 @@ impl<'a, D: Desk, I: Source, O: Sink> Server<'a, D, I, O> {
     /// Returns whether nothing waits to be written, and no connection waits to be closed.
     fn is_finished(&self) -> bool {
         self.printer.is_done() && self.places.are_at_rest()
+    }
+
+    /// Prints a line for each planned fault that happened since the last call.
+    fn print_happened(&mut self)
+        ensures { Keeps D.follows self.old.desk self.new.desk }
+    {
+        for fault in self.desk.take_happened() {
+            self.printer.push(fault_happened_line(&fault).as_str());
+        }
     }
 
     /// Prints that the current stream ended.

@@ -30,5 +30,5 @@ pub fn connection_laws()
 /// one step: the requests were taken and their responses appended, in the same order.
 pub fn turn_laws<D: Desk>()
     ensures { (old : ConnectionValue) (desk : D) (all : List ServedValue) (new : ConnectionValue)
-        (after : D) → Serves D.answers old desk all new after → ServesEach old new all }
+        (after : D) → Serves D.answers D.shows D.takes old desk all new after → ServesEach old new all }
 {}

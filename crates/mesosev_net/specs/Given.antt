@@ -5,6 +5,7 @@ use Rattle.mes_frame.specs.Devices.{Device}
 use Rattle.mes_frame.specs.declared.limits.TheConstants.{DEFAULT_RECORD_LIMIT}
 use Rattle.mes_model.specs.declared.framework_info.FrameworkInfo.{FrameworkInfo}
 use Rattle.mes_model.specs.Id.{Id}
+use Rattle.mesosev_stream.specs.Messages.{events as these}
 use Rattle.mesosev_stream.specs.Printing.{Prints, ReadsInput}
 use Rattle.mesosev_stream.specs.declared.exit_status.ExitStatus.TheVariants as exit
 use Rattle.mesosev_stream.specs.declared.outcome.RunOutcome.{RunOutcome}
@@ -18,7 +19,7 @@ use Rattle.mes_stream.specs.declared.stream_reader.Framing.TheVariants.{Plain}
 abbrev pub Given : (List Event → Type 0) → Device → Device → Device → Device → RunOutcome → Type 0
 Given Does input rest out printed ended =
     (w : List ℕ) × (events : List Event) × (outcome : Result Report Stop)
-    × ReadsInput Plain DEFAULT_RECORD_LIMIT MAX_READS input rest w events outcome
+    × ReadsInput these Plain DEFAULT_RECORD_LIMIT MAX_READS input rest w events outcome
     × MatchResult outcome (λ report. Does events) (λ stop. Prints out printed (fault_text stop.fault stop.used ++ 10 ∷ []) exit.Fault ended)
 
 -- the framework id of a test master

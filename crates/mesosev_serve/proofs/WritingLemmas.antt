@@ -13,6 +13,7 @@ use Rattle.mes_frame.specs.declared.limits.TheConstants.{DEFAULT_RECORD_LIMIT}
 use Rattle.mes_frame.specs.declared.write.WriteFault.{WriteFault}
 use Rattle.mes_double_http.specs.Texts.{ok_text}
 use Rattle.mes_stream.proofs.SendLemmas.{stream_of}
+use Rattle.mes_msg.specs.Events.{event}
 use Rattle.mes_stream.specs.Sending.{IsPlainOf}
 use Rattle.mesosev_serve.specs.Writing.{Wrote, Stopped, Writes, WritesRecords}
 use Rattle.mesosev_serve.specs.declared.response.Reply.TheVariants.{Stream}
@@ -78,15 +79,15 @@ module _ (most : ℕ) (id records : List ℕ) (a b c : Device) (out : Appends a.
 
 -- `WritesRecords` for the records of the events implies `Writes` for the stream of the events
 records_written : {T : Type 0} (most : ℕ) (id records : List ℕ) (events : List Event) (a b : Device) (sent : Result T SendError) → most < 2 ^ 64
-    → IsPlainOf DEFAULT_RECORD_LIMIT events records → WritesRecords most id records a b sent → Writes most (Stream id events) a b sent
+    → IsPlainOf event DEFAULT_RECORD_LIMIT events records → WritesRecords most id records a b sent → Writes most (Stream id events) a b sent
 records_written most id records events a b (Ok done) small plain (w, framed, out) =
-    (ok_text id ++ w, (w, stream_of (λ (d : Device). d) DEFAULT_RECORD_LIMIT events most records w small plain framed, refl), out)
+    (ok_text id ++ w, (w, stream_of event (λ (d : Device). d) DEFAULT_RECORD_LIMIT events most records w small plain framed, refl), out)
 records_written most id records events a b (Err unsent.Write) small plain (w, framed, stops) =
-    (ok_text id ++ w, (w, stream_of (λ (d : Device). d) DEFAULT_RECORD_LIMIT events most records w small plain framed, refl), stops)
+    (ok_text id ++ w, (w, stream_of event (λ (d : Device). d) DEFAULT_RECORD_LIMIT events most records w small plain framed, refl), stops)
 records_written most id records events a b (Err unsent.NoMemory) small plain none = absurd none
 records_written most id records events a b (Err unsent.Encode) small plain none = absurd none
 
 pub stream_written : {T : Type 0} (most size : ℕ) (id records : List ℕ) (events : List Event) (a b : Device) (sent : Result T SendError) → size ≡ most → size < 2 ^ 64
-    → IsPlainOf DEFAULT_RECORD_LIMIT events records → WritesRecords size id records a b sent → Writes most (Stream id events) a b sent
+    → IsPlainOf event DEFAULT_RECORD_LIMIT events records → WritesRecords size id records a b sent → Writes most (Stream id events) a b sent
 stream_written {T = T} most size id records events a b sent same small plain wrote =
     subst (λ (n : ℕ). Writes n (Stream id events) a b sent) same (records_written size id records events a b sent small plain wrote)

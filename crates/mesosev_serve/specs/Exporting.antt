@@ -13,6 +13,7 @@ use Rattle.mes_msg.specs.declared.send_fault.SendFault.TheVariants as send
 use Rattle.mes_stream.specs.Lines.{fault_text}
 use Rattle.mes_stream.specs.declared.fault.Fault.TheVariants.{NoMemory}
 use Rattle.mes_stream.specs.declared.stream_reader.Framing.TheVariants.{Chunked}
+use Rattle.mesosev_stream.specs.Messages.{events}
 use Rattle.mesosev_stream.specs.JsonLines.{Exports}
 use Rattle.mesosev_stream.specs.Printing.{Tells}
 use Rattle.mesosev_stream.specs.declared.exit_status.ExitStatus.TheVariants as exit
@@ -34,7 +35,7 @@ abbrev pub ExportsAnswer : ℕ → Device → Device → Device → Device → D
 ExportsAnswer reads input rest out printed err reported ended =
     (taken : List ℕ) × (following : Device) × Consumes input.bytes following.bytes taken
     × (((id : List ℕ) × OpensStream taken id × GaveEach (length taken) input.counts following.counts
-    × Exports Chunked DEFAULT_RECORD_LIMIT reads following rest out printed err reported ended)
+    × Exports events Chunked DEFAULT_RECORD_LIMIT reads following rest out printed err reported ended)
     ⊎ ((fault : HeadFault) × Refuses BreaksStream fault taken input.counts following.counts × (rest ≡ following) × (printed ≡ out)
     × Tells err reported (refused_line fault) × (ended ≡ Status exit.Fault)))
 

@@ -1,9 +1,8 @@
 -- The printed lines of a connection.
 use Rattle.std.specs.Prelude.{◌≡◌, ℕ, Bool, true, false, List, ◌++◌, length, Result, Ok, Err, codes, decimal}
-use Rattle.mes_msg.specs.Call.{Call}
-use Rattle.mes_msg.specs.Call.TheVariants as of
 use Rattle.mes_frame.specs.Devices.{Device}
 use Rattle.mes_frame.specs.declared.write.WriteFault.{WriteFault}
+use Rattle.mes_double_master.specs.Names.{call_name}
 use Rattle.mesosev_serve.specs.Writing.{Stopped, Wrote}
 use Rattle.mesosev_serve.specs.declared.request.ParsedRequest.{ParsedRequest}
 use Rattle.mesosev_serve.specs.declared.request.ParsedRequest.TheVariants.{Calls}
@@ -12,20 +11,6 @@ use Rattle.mesosev_serve.specs.declared.response.Reply.TheVariants.{Nothing, Sta
 use Rattle.mesosev_serve.specs.declared.connection.Served.{Served}
 use Rattle.mesosev_serve.specs.declared.response_writer.SendError.{SendError}
 use Rattle.mesosev_serve.specs.declared.response_writer.SendError.TheVariants as unsent
-
--- the name of the call's type
-abbrev pub call_name : Call → List ℕ
-call_name (of.Subscribe framework body) = codes "SUBSCRIBE"
-call_name (of.Accept framework body) = codes "ACCEPT"
-call_name (of.Decline framework body) = codes "DECLINE"
-call_name (of.Revive framework) = codes "REVIVE"
-call_name (of.Kill framework body) = codes "KILL"
-call_name (of.Acknowledge framework body) = codes "ACKNOWLEDGE"
-call_name (of.Reconcile framework body) = codes "RECONCILE"
-call_name (of.Teardown framework) = codes "TEARDOWN"
-call_name (of.Suppress framework) = codes "SUPPRESS"
-call_name (of.Shutdown framework body) = codes "SHUTDOWN"
-call_name (of.Message framework body) = codes "MESSAGE"
 
 -- the name of the call's type, or `-` without a call
 abbrev pub asked_name : ParsedRequest → List ℕ

@@ -14,6 +14,7 @@ use Rattle.mes_model.specs.declared.framework_info.FrameworkInfo.{FrameworkInfo}
 use Rattle.mes_msg.specs.declared.send_fault.SendFault.{SendFault}
 use Rattle.mes_msg.specs.declared.send_fault.SendFault.TheVariants as send
 use Rattle.mesosev_stream.specs.Printing.{Prints, LacksMemory}
+use Rattle.mesosev_stream.specs.Messages.{events}
 use Rattle.mesosev_stream.specs.Showing.{Shows}
 use Rattle.mesosev_stream.specs.declared.exit_status.ExitStatus.TheVariants as exit
 use Rattle.mesosev_stream.specs.declared.outcome.RunOutcome.{RunOutcome}
@@ -46,7 +47,7 @@ refused_line f = codes "refused " ++ head_fault_text f ++ codes "\n"
 abbrev pub ShowsAnswer : ℕ → Device → Device → Device → Device → RunOutcome → Type 0
 ShowsAnswer reads input rest out reported ended =
     (taken : List ℕ) × (following : Device) × Consumes input.bytes following.bytes taken
-    × (((id : List ℕ) × OpensStream taken id × GaveEach (length taken) input.counts following.counts × Shows Chunked DEFAULT_RECORD_LIMIT reads following rest out reported ended)
+    × (((id : List ℕ) × OpensStream taken id × GaveEach (length taken) input.counts following.counts × Shows events Chunked DEFAULT_RECORD_LIMIT reads following rest out reported ended)
     ⊎ ((fault : HeadFault) × Refuses BreaksStream fault taken input.counts following.counts × (rest ≡ following) × Prints out reported (refused_line fault) exit.Fault ended))
 
 -- the line for a SUBSCRIBE that was not sent was printed

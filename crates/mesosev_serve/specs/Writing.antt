@@ -5,6 +5,7 @@ use Rattle.mes_frame.specs.Frames.{IsFrames}
 use Rattle.mes_frame.specs.declared.limits.TheConstants.{DEFAULT_RECORD_LIMIT}
 use Rattle.mes_frame.specs.declared.write.WriteFault.{WriteFault}
 use Rattle.mes_double_http.specs.Texts.{ok_text, status_text}
+use Rattle.mes_msg.specs.Events.{event}
 use Rattle.mes_msg.specs.declared.send_fault.EncodeFaultKind.{EncodeFaultKind}
 use Rattle.mes_msg.specs.declared.send_fault.SendFault.{SendFault}
 use Rattle.mes_msg.specs.declared.send_fault.SendFault.TheVariants as send
@@ -26,11 +27,11 @@ Stopped old new w fault = WroteSome (λ (d : Device). d) old new w fault
 abbrev pub IsReplyText : ℕ → Reply → List ℕ → Type 0
 IsReplyText most Nothing w = w ≡ []
 IsReplyText most (Status code) w = w ≡ status_text code
-IsReplyText most (Stream id events) w = (body : List ℕ) × IsStreamOf DEFAULT_RECORD_LIMIT most events body × (w ≡ ok_text id ++ body)
+IsReplyText most (Stream id events) w = (body : List ℕ) × IsStreamOf event DEFAULT_RECORD_LIMIT most events body × (w ≡ ok_text id ++ body)
 
 -- the response is a stream, and one of its events cannot be encoded
 abbrev pub IsUnwritable : Reply → Type 0
-IsUnwritable (Stream id events) = (index : ℕ) × (why : EncodeFaultKind) × IsFirstBad DEFAULT_RECORD_LIMIT events index why
+IsUnwritable (Stream id events) = (index : ℕ) × (why : EncodeFaultKind) × IsFirstBad event DEFAULT_RECORD_LIMIT events index why
 IsUnwritable _ = ⊥
 
 -- writing the response allocates: the response is a stream

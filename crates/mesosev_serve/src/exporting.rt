@@ -11,7 +11,7 @@ use crate::subscribing::{report_refused, report_unsent, send_subscribe};
 use mes_double_http::{HeadFault, MAX_HOST, read_head};
 use mes_frame::{Limit, Sink, Source};
 use mes_model::FrameworkInfo;
-use mes_msg::SendFault;
+use mes_msg::{Event, SendFault};
 use mes_stream::Framing;
 use mesosev_stream::{ExitStatus, MAX_READS, RunOutcome, export};
 use std::alloc::Global;
@@ -61,7 +61,7 @@ fn export_answer<R: Source, O: Sink, E: Sink>(
         (E.device err.old) (E.device err.new) result }
 {
     match read_head(reader) {
-        Ok(_) => export(
+        Ok(_) => export::<Event, _, _, _>(
             alloc,
             Framing::Chunked,
             Limit::USUAL,

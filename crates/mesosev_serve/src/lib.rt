@@ -26,7 +26,7 @@ mod theorems;
 pub use connection::Served;
 pub use exporting::export_over;
 pub use lines::WRITE_FAILED;
-pub use request::call_name;
+pub use mes_double_master::call_name;
 pub use serve::serve_one;
 pub use subscribing::{report_unsent, send_subscribe, show_answer, subscribe_over};
 pub use theorems::serve_laws;

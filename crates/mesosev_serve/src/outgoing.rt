@@ -4,7 +4,7 @@ ghost use Rattle.std.specs.Prelude.{◌≡◌, [], ◌∷◌, ◌++◌, map, IfO
 
 use mes_json::NoMemory;
 use mes_msg::Event;
-use mes_stream::event_refs;
+use mes_stream::message_refs;
 use std::alloc::Global;
 use std::marker::Model;
 
@@ -52,7 +52,7 @@ impl<'a> Outgoing<'a> {
     pub(crate) fn all(&self, alloc: Global) -> Result<Vec<&Event>, NoMemory>
         ensures { IfOk result (λ all. map (λ event. event.now) all.items ≡ self.now) }
     {
-        let mut all = event_refs(alloc, self.own.as_slice())?;
+        let mut all = message_refs(alloc, self.own.as_slice())?;
         all.extend_from_slice(self.given.as_slice())?;
         Ok(all)
     }

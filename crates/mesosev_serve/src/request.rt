@@ -3,9 +3,10 @@
 ghost use Rattle.std.specs.Prelude.{◌≡◌, ◌≤◌, ℕ, List, length};
 ghost use Rattle.std.specs.Io.KnownBytes.{Consumes};
 ghost use Rattle.mesosev_serve.specs.Asking.{IsAsked, IsAskedBy};
-ghost use Rattle.mesosev_serve.specs.Lines.{asked_name, call_name};
+ghost use Rattle.mesosev_serve.specs.Lines.{asked_name};
 
 use mes_double_http::{HeadFault, Request, StreamId, read_request};
+use mes_double_master::call_name;
 use mes_frame::Source;
 use mes_msg::{Call, RecordFault};
 use std::alloc::Global;
@@ -52,25 +53,5 @@ fn parse_request(alloc: Global, request: Request) -> ParsedRequest
     match Call::read_record(alloc, request.body.as_slice()) {
         Ok(call) => ParsedRequest::Calls(request.stream, call),
         Err(fault) => ParsedRequest::NoCall(fault),
-    }
-}
-
-/// Returns the name of the call's type (scheduler.proto, `Call.Type`).
-pub fn call_name(call: &Call) -> &'static str
-    ensures name { result.now ≡ call_name call.now }
-    ensures bound { length result.now ≤ 11 }
-{
-    match call {
-        Call::Subscribe { .. } => "SUBSCRIBE",
-        Call::Accept { .. } => "ACCEPT",
-        Call::Decline { .. } => "DECLINE",
-        Call::Revive { .. } => "REVIVE",
-        Call::Kill { .. } => "KILL",
-        Call::Acknowledge { .. } => "ACKNOWLEDGE",
-        Call::Reconcile { .. } => "RECONCILE",
-        Call::Teardown { .. } => "TEARDOWN",
-        Call::Suppress { .. } => "SUPPRESS",
-        Call::Shutdown { .. } => "SHUTDOWN",
-        Call::Message { .. } => "MESSAGE",
     }
 }

@@ -3,6 +3,7 @@
 ghost use Rattle.std.specs.Prelude.{◌≡◌, ◌≤◌, length, All, IfOk};
 ghost use Rattle.mes_double_http.specs.StreamIds.{IsVisible};
 ghost use Rattle.mesosev_stream.specs.Printing.{Prints};
+ghost use Rattle.mesosev_stream.specs.Messages.{events};
 ghost use Rattle.mesosev_stream.specs.Showing.{Shows};
 ghost use Rattle.mesosev_serve.specs.Subscribing.{SendsSubscribe, ShowsAnswer, SubscribesOver, ReportsUnsent, first_subscribe, refused_line};
 
@@ -12,7 +13,7 @@ use mes_double_http::{HeadFault, MAX_HOST, read_head, write_call};
 use mes_frame::{DEFAULT_RECORD_LIMIT, Limit, Sink, Source};
 use mes_json::NoMemory;
 use mes_model::FrameworkInfo;
-use mes_msg::{Call, SendFault};
+use mes_msg::{Call, Event, SendFault};
 use mes_session::Session;
 use mes_stream::Framing;
 use mesosev_stream::{
@@ -108,11 +109,11 @@ fn show_stream<R: Source, O: Sink>(
     out: &mut O,
 ) -> RunOutcome
     requires { max_reads ≤ MAX_READS }
-    ensures { Shows Framing.Chunked DEFAULT_RECORD_LIMIT max_reads
+    ensures { Shows events Framing.Chunked DEFAULT_RECORD_LIMIT max_reads
         (R.device reader.old) (R.device reader.new)
         (O.device out.old) (O.device out.new) result }
 {
-    follow(
+    follow::<Event, _, _>(
         alloc,
         Detail::Lines,
         Framing::Chunked,

@@ -5,8 +5,7 @@ use Rattle.std.proofs.lemmas.List.{take-append-le, take_more, drop_more}
 use Rattle.mes_frame.proofs.Parts.{none_then_stops, none_then_none}
 use Rattle.mes_frame.specs.Written.{WentOut, Stops}
 use Rattle.mes_frame.specs.declared.write.WriteFault.{WriteFault}
-use Rattle.mes_msg.specs.ShowLines.{event_lines}
-use Rattle.mes_msg.specs.Event.{Event}
+use Rattle.mesosev_stream.specs.Messages.{Messages}
 use Rattle.mes_stream.specs.Stream.{saturated}
 use Rattle.mes_frame.specs.Devices.{Device}
 use Rattle.mesosev_stream.specs.Printing.{GoesOut, IsCutOff, Prints, PrintsAfter, ended_after}
@@ -71,30 +70,31 @@ goes_then_stops a b c v w before fault first stops =
       stops = none_then_stops fault.why a.counts b.counts c.counts first.good stops.why;
     }
 
-pub lines_both : (n : ℕ) (xs ys : List Event) → lines_from n (xs ++ ys) ≡ lines_from n xs ++ lines_from (n + length xs) ys
-lines_both n [] ys = ap (λ (k : ℕ). lines_from k ys) (none n) where
-  none : (n : ℕ) → n ≡ n + 0
-  none n = omega arith
-lines_both n (x ∷ xs) ys =
-    ap (λ (t : List ℕ). event_lines (saturated n) x ++ t) (rw (plus n (length xs)) at (lines_both (n + 1) xs ys))
-    ∙ sym (append_assoc (event_lines (saturated n) x) (lines_from (n + 1) xs) (lines_from (n + suc (length xs)) ys)) where
-      plus : (n k : ℕ) → (n + 1) + k ≡ n + suc k
-      plus n k = omega arith
+module _ {M : Type 0} (of : Messages M) where
+  pub lines_both : (n : ℕ) (xs ys : List M) → lines_from of n (xs ++ ys) ≡ lines_from of n xs ++ lines_from of (n + length xs) ys
+  lines_both n [] ys = ap (λ (k : ℕ). lines_from of k ys) (none n) where
+    none : (n : ℕ) → n ≡ n + 0
+    none n = omega arith
+  lines_both n (x ∷ xs) ys =
+      ap (λ (t : List ℕ). of.lines (saturated n) x ++ t) (rw (plus n (length xs)) at (lines_both (n + 1) xs ys))
+      ∙ sym (append_assoc (of.lines (saturated n) x) (lines_from of (n + 1) xs) (lines_from of (n + suc (length xs)) ys)) where
+        plus : (n k : ℕ) → (n + 1) + k ≡ n + suc k
+        plus n k = omega arith
 
--- the lines of the events up to x, the event at index i
-pub lines_to : (events : List Event) (x : Event) (i n : ℕ) → i < length events → x ≡ get_or events i x
-    → lines_from n (take (i + 1) events) ≡ lines_from n (take i events) ++ event_lines (saturated (n + i)) x
-lines_to events x i n inside is =
-    ap (λ (es : List Event). lines_from n es) (take_more events i x inside ∙ ap (λ (y : Event). take i events ++ y ∷ []) (sym is))
-    ∙ lines_both n (take i events) (x ∷ [])
-    ∙ ap (λ (t : List ℕ). lines_from n (take i events) ++ t) (append-nil (event_lines (saturated (n + length (take i events))) x))
-    ∙ ap (λ (k : ℕ). lines_from n (take i events) ++ event_lines (saturated (n + k)) x) (length-take-le i events (omega (arith, inside)))
+  -- the lines of the messages up to x, the message at index i
+  pub lines_to : (messages : List M) (x : M) (i n : ℕ) → i < length messages → x ≡ get_or messages i x
+      → lines_from of n (take (i + 1) messages) ≡ lines_from of n (take i messages) ++ of.lines (saturated (n + i)) x
+  lines_to messages x i n inside is =
+      ap (λ (es : List M). lines_from of n es) (take_more messages i x inside ∙ ap (λ (y : M). take i messages ++ y ∷ []) (sym is))
+      ∙ lines_both n (take i messages) (x ∷ [])
+      ∙ ap (λ (t : List ℕ). lines_from of n (take i messages) ++ t) (append-nil (of.lines (saturated (n + length (take i messages))) x))
+      ∙ ap (λ (k : ℕ). lines_from of n (take i messages) ++ of.lines (saturated (n + k)) x) (length-take-le i messages (omega (arith, inside)))
 
--- the lines of all events are those of the first i events and those of the others
-pub lines_on : (events : List Event) (i n : ℕ) → lines_from n events ≡ lines_from n (take i events) ++ lines_from (n + length (take i events)) (drop i events)
-lines_on events i n = ap (λ (es : List Event). lines_from n es) (sym (take-append-drop i events)) ∙ lines_both n (take i events) (drop i events)
+  -- the lines of all messages are those of the first i messages and those of the others
+  pub lines_on : (messages : List M) (i n : ℕ) → lines_from of n messages ≡ lines_from of n (take i messages) ++ lines_from of (n + length (take i messages)) (drop i messages)
+  lines_on messages i n = ap (λ (es : List M). lines_from of n es) (sym (take-append-drop i messages)) ∙ lines_both n (take i messages) (drop i messages)
 
--- a list of events is the events before index i, the event x at i, and the events after x
-pub events_at : (events : List Event) (x : Event) (i : ℕ) → i < length events → x ≡ get_or events i x → events ≡ take i events ++ x ∷ drop (i + 1) events
-events_at events x i inside is =
-    sym (take-append-drop i events) ∙ ap (λ (es : List Event). take i events ++ es) (drop_more events i x inside ∙ ap (λ (y : Event). y ∷ drop (i + 1) events) (sym is))
+  -- a list of messages is the messages before index i, the message x at i, and the messages after x
+  pub messages_at : (messages : List M) (x : M) (i : ℕ) → i < length messages → x ≡ get_or messages i x → messages ≡ take i messages ++ x ∷ drop (i + 1) messages
+  messages_at messages x i inside is =
+      sym (take-append-drop i messages) ∙ ap (λ (es : List M). take i messages ++ es) (drop_more messages i x inside ∙ ap (λ (y : M). y ∷ drop (i + 1) messages) (sym is))

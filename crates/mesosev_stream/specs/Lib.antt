@@ -1,3 +1,5 @@
+pub mod CallLines
+pub mod Messages
 pub mod Printing
 pub mod Outputs
 pub mod Converting
@@ -5,3 +7,4 @@ pub mod Showing
 pub mod Following
 pub mod JsonLines
 pub mod Exporting
+pub mod LineNumbers

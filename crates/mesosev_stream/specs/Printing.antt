@@ -1,19 +1,20 @@
 -- The bytes read from the input, and the texts printed.
-use Rattle.std.specs.Prelude.{◌≡◌, ℕ, ◌+◌, ◌<◌, Bool, true, false, List, [], ◌∷◌, ◌++◌, length, take, Result, Ok, Err}
+use Rattle.std.specs.Prelude.{◌≡◌, ℕ, ◌+◌, ◌<◌, Bool, true, false, Option, List, [], ◌∷◌, ◌++◌, length, take, Result, Ok, Err}
 use Rattle.std.specs.Io.KnownBytes.{Appends, Consumes}
 use Rattle.mes_frame.specs.Devices.{Device}
 use Rattle.mes_frame.specs.Write.{NoneFails, StopsWrite}
 use Rattle.mes_frame.specs.declared.write.WriteFault.{WriteFault}
 use Rattle.mes_frame.specs.declared.write.WriteFaultKind.{WriteFaultKind}
 use Rattle.mes_frame.specs.declared.write.WriteFaultKind.TheVariants as why
-use Rattle.mes_stream.specs.Lines.{fault_text, count_text}
+use Rattle.mes_stream.specs.Lines.{fault_text, counts_text}
+use Rattle.mesosev_stream.specs.LineNumbers.{line_in, stop_text}
 use Rattle.mes_stream.specs.SendLines.{send_text}
 use Rattle.mes_stream.specs.Reading.{EndsReading}
 use Rattle.mes_stream.specs.Stream.{saturated}
 use Rattle.mes_stream.specs.declared.stream_reader.Framing.{Framing}
-use Rattle.mes_msg.specs.Events.{Spells}
-use Rattle.mes_stream.specs.Refusals.{IsEventRefusal}
-use Rattle.mes_msg.specs.Event.{Event}
+use Rattle.mes_msg.specs.Texts.{IsTextOf}
+use Rattle.mes_stream.specs.Refusals.{IsMessageRefusal}
+use Rattle.mesosev_stream.specs.Messages.{Messages}
 use Rattle.mes_stream.specs.declared.fault.Fault.TheVariants.{NoMemory}
 use Rattle.mes_stream.specs.declared.fault.Report.{Report}
 use Rattle.mes_stream.specs.declared.fault.Stop.{Stop}
@@ -78,26 +79,36 @@ Finishes closed err reported (Status answer) status = (reported ≡ err) × (sta
 Finishes true err reported (OutputFailed sent) status = (reported ≡ err) × (status ≡ exit.Fault)
 Finishes false err reported (OutputFailed sent) status = Tells err reported (failed_text sent ++ 10 ∷ []) × (status ≡ exit.Fault)
 
--- the line of a stream that was read: the number of its events and bytes, or its error
-abbrev pub outcome_line : ℕ → Result Report Stop → List ℕ
-outcome_line events (Ok report) = count_text events report.used
-outcome_line events (Err stop) = fault_text stop.fault stop.used
+-- the line of a stream that was read: the number of its messages and bytes, or its error, which is
+-- in the given line of JSON Lines
+abbrev pub outcome_line : List ℕ → Option ℕ → ℕ → Result Report Stop → List ℕ
+outcome_line word line messages (Ok report) = counts_text word messages report.used
+outcome_line word line messages (Err stop) = stop_text line stop
+
+-- the number of bytes used
+abbrev pub used_by : Result Report Stop → ℕ
+used_by (Ok report) = report.used
+used_by (Err stop) = stop.used
+
+-- the number of the line in which the reading of w ended, if w is JSON Lines
+abbrev pub last_line : Framing → List ℕ → Result Report Stop → Option ℕ
+last_line framing w outcome = line_in framing (used_by outcome) w
 
 -- the status of a stream that was read: `Success` if it was read to its end
 abbrev pub outcome_status : Result Report Stop → ExitStatus
 outcome_status (Ok report) = exit.Success
 outcome_status (Err stop) = exit.Fault
 
--- the bytes w were read from the input, with the given events and result
-abbrev pub ReadsInput : Framing → ℕ → ℕ → Device → Device → List ℕ → List Event → Result Report Stop → Type 0
-ReadsInput framing limit reads input rest w events outcome = Consumes input.bytes rest.bytes w
-    × EndsReading framing Spells IsEventRefusal limit reads input.counts rest.counts rest.bytes w events outcome
+-- the bytes w were read from the input, with the given messages and result
+abbrev pub ReadsInput : {M : Type 0} → Messages M → Framing → ℕ → ℕ → Device → Device → List ℕ → List M → Result Report Stop → Type 0
+ReadsInput of framing limit reads input rest w messages outcome = Consumes input.bytes rest.bytes w
+    × EndsReading framing (IsTextOf of.kind) (IsMessageRefusal of.kind) limit reads input.counts rest.counts rest.bytes w messages outcome
 
 -- some bytes were read from the input, and the line of the result was printed
-abbrev pub Checks : Framing → ℕ → ℕ → Device → Device → Device → Device → RunOutcome → Type 0
-Checks framing limit reads input rest out printed ended =
-    (w : List ℕ) × (events : List Event) × (outcome : Result Report Stop) × ReadsInput framing limit reads input rest w events outcome
-    × Prints out printed (outcome_line (length events) outcome ++ 10 ∷ []) (outcome_status outcome) ended
+abbrev pub Checks : {M : Type 0} → Messages M → Framing → ℕ → ℕ → Device → Device → Device → Device → RunOutcome → Type 0
+Checks {M = M} of framing limit reads input rest out printed ended =
+    (w : List ℕ) × (messages : List M) × (outcome : Result Report Stop) × ReadsInput of framing limit reads input rest w messages outcome
+    × Prints out printed (outcome_line of.word (last_line framing w outcome) (length messages) outcome ++ 10 ∷ []) (outcome_status outcome) ended
 
 -- an allocation failed before any byte was used, and the line of that error was printed
 abbrev pub LacksMemory : Device → Device → RunOutcome → Type 0

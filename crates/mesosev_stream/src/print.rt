@@ -2,17 +2,19 @@
 //! `Result`.
 
 ghost use Rattle.std.specs.Prelude.{◌≡◌, ◌≤◌, [], ◌∷◌, ◌++◌, length};
-ghost use Rattle.mes_stream.specs.Lines.{fault_text, count_text};
-ghost use Rattle.mes_stream.specs.SendLines.{send_text};
+ghost use Rattle.mes_stream.specs.Lines.{fault_text, counts_text};
+ghost use Rattle.mes_stream.specs.SendLines.{send_text, unsent_text};
+ghost use Rattle.mesosev_stream.specs.LineNumbers.{stop_text};
 ghost use Rattle.mesosev_stream.specs.Printing.{LacksMemory, Prints, PrintsText, outcome_line, outcome_status};
 
 use crate::exit_status::ExitStatus;
 use crate::limits::MAX_LINE;
+use crate::line_number::push_place;
 use crate::outcome::RunOutcome;
 use arrayvec::ArrayString;
 use mes_frame::{Sink, WriteFault, write_all};
 use mes_stream::{
-    Fault, MAX_FAULT_LINE, Report, SendFault, Stop, count_line, fault_line, send_line,
+    Fault, MAX_FAULT_LINE, Report, SendFault, Stop, counts_line, fault_line, unsent_line,
 };
 
 /// Prints bytes.
@@ -52,14 +54,20 @@ pub fn print_line<O: Sink>(out: &mut O, line: &str) -> Result<(), WriteFault>
     print_text(out, text.as_str())
 }
 
-/// Prints the line with the numbers of events and bytes.
-pub(crate) fn print_count<O: Sink>(out: &mut O, events: u64, used: u64) -> Result<(), WriteFault>
+/// Prints the line with the numbers of messages and bytes; `word` is the printed name of a message.
+pub(crate) fn print_count<O: Sink>(
+    out: &mut O,
+    word: &str,
+    messages: u64,
+    used: u64,
+) -> Result<(), WriteFault>
+    requires { length word.now ≤ 5 }
     ensures { PrintsText (O.device out.old)
         (O.device out.new)
-        (count_text events used ++ 10 ∷ []) result }
+        (counts_text word.now messages used ++ 10 ∷ []) result }
 {
     let mut line = ArrayString::new();
-    count_line(events, used, &mut line);
+    counts_line(word, messages, used, &mut line);
     print_line(out, line.as_str())
 }
 
@@ -77,6 +85,25 @@ pub fn print_fault<O: Sink>(out: &mut O, fault: &Fault, used: u64) -> Result<(),
     print_line(out, line.as_str())
 }
 
+/// Prints the line of an error. If it is in a record, and `line`, the number of its line of JSON
+/// Lines, is not the number of the record, prints that number too.
+pub(crate) fn print_stop<O: Sink>(
+    out: &mut O,
+    line: Option<u64>,
+    stop: &Stop,
+) -> Result<(), WriteFault>
+    ensures { PrintsText (O.device out.old) (O.device out.new) (stop_text line stop.now ++ 10 ∷ [])
+        result }
+{
+    let mut fault = ArrayString::<MAX_FAULT_LINE>::new();
+    fault_line(&stop.fault, stop.used, &mut fault);
+    let mut text = ArrayString::<MAX_LINE>::new();
+    text.push_str(fault.as_str());
+    push_place(&mut text, line, &stop.fault);
+    text.push_str("\n");
+    print_text(out, text.as_str())
+}
+
 /// Prints the line of a failed send.
 ///
 /// Errors: like [`print_bytes`].
@@ -86,25 +113,44 @@ pub fn print_send_fault<O: Sink>(out: &mut O, fault: &SendFault) -> Result<(), W
         (O.device out.new)
         (send_text fault.now ++ 10 ∷ []) result }
 {
+    print_unsent(out, "event", fault)
+}
+
+/// Like [`print_send_fault`], for messages whose printed name is `word`.
+pub(crate) fn print_unsent<O: Sink>(
+    out: &mut O,
+    word: &str,
+    fault: &SendFault,
+) -> Result<(), WriteFault>
+    requires { length word.now ≤ 5 }
+    ensures { PrintsText (O.device out.old)
+        (O.device out.new)
+        (unsent_text word.now fault.now ++ 10 ∷ []) result }
+{
     let mut line = ArrayString::new();
-    send_line(fault, &mut line);
+    unsent_line(word, fault, &mut line);
     print_line(out, line.as_str())
 }
 
-/// Prints the result of reading a stream with this number of events. The status is `Success` if the
-/// stream was read to its end, and `Fault` otherwise.
-pub fn report_outcome<O: Sink>(
+/// Prints the result of reading a stream with this number of messages, whose printed name is `word`.
+/// `line` is the number of the line of JSON Lines in which the reading ended. The status is
+/// `Success` if the stream was read to its end, and `Fault` otherwise.
+pub(crate) fn report_outcome<O: Sink>(
     out: &mut O,
-    events: u64,
+    word: &str,
+    line: Option<u64>,
+    messages: u64,
     outcome: &Result<Report, Stop>,
 ) -> RunOutcome
+    requires { length word.now ≤ 5 }
     // The line printed, and the outcome.
     ensures { Prints (O.device out.old) (O.device out.new)
-        (outcome_line events outcome.now ++ 10 ∷ []) (outcome_status outcome.now) result }
+        (outcome_line word.now line messages outcome.now ++ 10 ∷ []) (outcome_status outcome.now)
+        result }
 {
     match outcome {
-        Ok(report) => ExitStatus::Success.after(print_count(out, events, report.used)),
-        Err(stop) => ExitStatus::Fault.after(print_fault(out, &stop.fault, stop.used)),
+        Ok(report) => ExitStatus::Success.after(print_count(out, word, messages, report.used)),
+        Err(stop) => ExitStatus::Fault.after(print_stop(out, line, stop)),
     }
 }
 

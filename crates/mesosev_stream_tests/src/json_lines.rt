@@ -1,6 +1,7 @@
 //! Tests of `show --json` and `convert --json` over devices in memory.
 
 use mes_frame::{Limit, MemorySink, MemorySource, MemoryStop};
+use mes_msg::Event;
 use mes_stream::Framing;
 use mesosev_stream::{ExitStatus, MAX_READS, OutputFormat, RunOutcome, convert, export};
 use std::alloc::{AllocGlobal, Global};
@@ -34,7 +35,7 @@ fn exported(
     err: &mut MemorySink,
 ) -> RunOutcome {
     let mut source = MemorySource::new(text.as_bytes(), size);
-    export(
+    export::<Event, _, _, _>(
         alloc,
         Framing::Plain,
         limit,
@@ -138,7 +139,7 @@ fn an_error_output_that_fails_is_ignored(rt: HostRuntime) {
 // Converts into JSON Lines, and returns the status.
 fn converted(alloc: Global, text: &str, out: &mut MemorySink, err: &mut MemorySink) -> ExitStatus {
     let mut source = MemorySource::new(text.as_bytes(), 7);
-    convert(
+    convert::<Event, _, _, _>(
         alloc,
         Framing::Plain,
         Limit::USUAL,

@@ -1,6 +1,7 @@
 //! Tests of `check`, `show` and `convert` over devices in memory.
 
 use mes_frame::{Limit, MemorySink, MemorySource, MemoryStop};
+use mes_msg::Event;
 use mes_stream::Framing;
 use mesosev_stream::{
     Detail, ExitStatus, MAX_READS, OutputFormat, RunOutcome, convert, finish, follow,
@@ -38,7 +39,7 @@ fn followed(
     source: &mut MemorySource<'_>,
     out: &mut MemorySink,
 ) -> RunOutcome {
-    follow(
+    follow::<Event, _, _>(
         alloc,
         detail,
         Framing::Plain,
@@ -136,7 +137,7 @@ fn followed_by(
     source: &mut MemorySource<'_>,
     out: &mut MemorySink,
 ) -> RunOutcome {
-    follow(
+    follow::<Event, _, _>(
         alloc,
         Detail::Lines,
         Framing::Plain,
@@ -265,7 +266,7 @@ fn an_output_that_failed_is_reported(rt: HostRuntime) {
 // Converts into plain RecordIO, and returns the status.
 fn converted(alloc: Global, out: &mut MemorySink, err: &mut MemorySink) -> ExitStatus {
     let mut source = MemorySource::new(HEARTBEAT.as_bytes(), 7);
-    convert(
+    convert::<Event, _, _, _>(
         alloc,
         Framing::Plain,
         Limit::USUAL,

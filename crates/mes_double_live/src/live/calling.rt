@@ -1,8 +1,9 @@
 //! How a live test master handles calls.
-ghost use Rattle.std.specs.Prelude.{◌≡◌, [], option_copied, IfOk};
+ghost use Rattle.std.specs.Prelude.{◌≡◌, [], None as none, option_copied, IfOk, OnOk};
 ghost use Rattle.mes_session_state.specs.Calls.{tasks_of};
 ghost use Rattle.mes_double_master.specs.Masters.{handled};
-ghost use Rattle.mes_double_live.specs.Lives.{OpensBy};
+ghost use Rattle.mes_double_live.specs.Lives.{OpensBy, call_counted, call_status, planned_fault, reply_fault, resets};
+ghost use Rattle.mes_double_live.specs.Logs.{call_answered, IsLogged};
 ghost use Rattle.mes_double_live.specs.Moving.{Moves};
 
 use super::{Live, MAX_AHEAD};
@@ -10,11 +11,12 @@ use crate::fault::LiveFault;
 use crate::reply::{EndedStream, Reply};
 use http::StatusCode;
 use mes_double_cluster::{refusal_end, task_unknown};
+use mes_double_faults::{CallFault, Fault};
 use mes_double_http::StreamId;
 use mes_double_master::Answer;
 use mes_double_master_state::events;
 use mes_double_master_state::updates::key_in;
-use mes_json::Text;
+use mes_json::{NoMemory, Text};
 use mes_model::{Id, TaskRef, TaskStatus};
 use mes_model_schema::Part;
 use mes_msg::{Acknowledge, Call, ErrorBody, Event, Failure, Kill, Shutdown};
@@ -24,7 +26,10 @@ const FAILED_OVER: &str = "Framework failed over";
 
 impl Live {
     /// Handles a call that names `stream`, or no stream. The statuses are those of
-    /// [`Master::handle`](mes_double_master::Master::handle).
+    /// [`Master::handle`](mes_double_master::Master::handle); or 503, for as many calls as BUSY came,
+    /// which are not carried out. A planned fault decides the status of its call too: 503, and the call
+    /// is not carried out (`busy`, `reset`); or 403, and a call on the current stream is carried out as
+    /// a TEARDOWN (`gone`).
     ///
     /// A SUBSCRIBE with status 200 ends the current stream with an ERROR, and opens a new one. On
     /// it are SUBSCRIBED, a HEARTBEAT, the unacknowledged updates, the offers that are free, and
@@ -33,8 +38,118 @@ impl Live {
         // The test master changes only by its own deeds, and what these launch fits.
         ensures moves { Moves self.old.master self.new.master }
         ensures status { IfOk result (λ reply. reply.status
-            ≡ (handled self.old.master call.now (option_copied stream.entry)).status) }
+            ≡ call_status self.old call.now (option_copied stream.entry)) }
+        // What happens to the connection of the call.
+        ensures fault { IfOk result (λ reply. reply.fault ≡ reply_fault self.old) }
         // Only a response with status 200 opens a stream.
+        ensures opened { IfOk result (λ reply. OpensBy reply.opened reply.status) }
+        // The response is the last entry of the log.
+        ensures logged { IfOk result (λ reply.
+            IsLogged (call_answered call.now reply.status) self.new.log) }
+    {
+        let reply = self.call_with_fault(stream, call)?;
+        self.log_call(call, reply.status)?;
+        Ok(reply)
+    }
+
+    /// Counts a call, and handles it as its fault demands.
+    fn call_with_fault(
+        &mut self,
+        stream: Option<&StreamId>,
+        call: &Call,
+    ) -> Result<Reply, LiveFault>
+        ensures moves { Moves self.old.master self.new.master }
+        ensures status { IfOk result (λ reply. reply.status
+            ≡ call_status self.old call.now (option_copied stream.entry)) }
+        ensures fault { IfOk result (λ reply. reply.fault ≡ reply_fault self.old) }
+        ensures opened { IfOk result (λ reply. OpensBy reply.opened reply.status) }
+    {
+        let fault = self.next_fault()?;
+        let reply = match fault {
+            Some(CallFault::Busy | CallFault::Reset) => {
+                Reply::plain(StatusCode::SERVICE_UNAVAILABLE)
+            }
+            Some(CallFault::Gone) => self.remove(stream, call)?,
+            _ => self.respond(stream, call)?,
+        };
+        Ok(reply.with(fault))
+    }
+
+    /// Counts a call. Returns its fault: the 503 that standard input demands, or the planned one.
+    fn next_fault(&mut self) -> Result<Option<CallFault>, NoMemory>
+        ensures fault { IfOk result (λ fault. fault ≡ reply_fault self.old) }
+        ensures same { self.new.master ≡ self.old.master }
+        ensures counted { OnOk result (self.new ≡ call_counted self.old) }
+    {
+        let planned = self.planned_next();
+        self.calls = self.calls.saturating_add(1);
+        if self.busy > 0 {
+            self.busy -= 1;
+            return Ok(Some(CallFault::Busy));
+        }
+        if let Some(fault) = planned {
+            self.out.note(Fault::Call(self.calls, fault))?;
+        }
+        Ok(planned)
+    }
+
+    /// Returns whether the connection of the next call is to be reset.
+    pub fn resets_next(&self) -> bool
+        ensures { result ≡ resets (reply_fault self.now) }
+    {
+        self.busy == 0 && self.planned_next() == Some(CallFault::Reset)
+    }
+
+    /// Returns the planned fault of the next call.
+    fn planned_next(&self) -> Option<CallFault>
+        ensures { result ≡ planned_fault self.now }
+    {
+        let number = self.calls.saturating_add(1);
+        self.out.plan().of_call(u64::from(number))
+    }
+
+    /// Counts a call whose connection is reset before the call is read.
+    pub fn reset(&mut self) -> Result<(), LiveFault>
+        ensures same { self.new.master ≡ self.old.master }
+        ensures counted { OnOk result (self.new ≡ call_counted self.old) }
+    {
+        self.next_fault()?;
+        Ok(())
+    }
+
+    /// Carries out a call as a TEARDOWN of its framework, if it names the current stream. The status is
+    /// 403.
+    fn remove(&mut self, stream: Option<&StreamId>, call: &Call) -> Result<Reply, LiveFault>
+        ensures moves { Moves self.old.master self.new.master }
+        ensures status { IfOk result (λ reply. reply.status ≡ 403) }
+        ensures opened { IfOk result (λ reply. reply.opened ≡ none) }
+    {
+        let mut reply = Reply::plain(StatusCode::FORBIDDEN);
+        if let Some(framework) = framework_of(call) {
+            reply.ended = self.tear_down(stream, framework)?;
+        }
+        Ok(reply)
+    }
+
+    /// Carries out a TEARDOWN of this framework, and returns the stream that it ended.
+    fn tear_down(
+        &mut self,
+        stream: Option<&StreamId>,
+        framework: &Id,
+    ) -> Result<Option<EndedStream>, LiveFault>
+        ensures { Moves self.old.master self.new.master }
+    {
+        let framework_id = framework.copy(self.alloc)?;
+        let call = Call::Teardown { framework_id };
+        let reply = self.carry_out(stream, &call)?;
+        Ok(reply.ended)
+    }
+
+    /// Handles a call, and sends what is due after it.
+    fn respond(&mut self, stream: Option<&StreamId>, call: &Call) -> Result<Reply, LiveFault>
+        ensures moves { Moves self.old.master self.new.master }
+        ensures status { IfOk result (λ reply. reply.status
+            ≡ (handled self.old.master call.now (option_copied stream.entry)).status) }
         ensures opened { IfOk result (λ reply. OpensBy reply.opened reply.status) }
     {
         let reply = self.reply_to(stream, call)?;
@@ -82,6 +197,7 @@ impl Live {
             status: answer.status,
             opened: self.current(),
             ended,
+            fault: None,
         })
     }
 
@@ -110,7 +226,7 @@ impl Live {
             return Ok(None);
         };
         let message = Text::of(self.alloc, FAILED_OVER)?;
-        self.out.push(&Event::Error(ErrorBody { message }))?;
+        self.push(&Event::Error(ErrorBody { message }))?;
         Ok(Some(self.end_stream(id)?))
     }
 
@@ -119,7 +235,7 @@ impl Live {
         ensures { self.new.master ≡ self.old.master }
     {
         for event in sent {
-            self.out.push(event)?;
+            self.push(event)?;
         }
         Ok(())
     }
@@ -142,6 +258,7 @@ impl Live {
             status: answer.status,
             opened: None,
             ended,
+            fault: None,
         })
     }
 
@@ -189,7 +306,7 @@ impl Live {
             Call::Shutdown { body, .. } => self.shut_down(body),
             Call::Message { body, .. } => {
                 let echo = Event::Message(body.copy(self.alloc)?);
-                self.out.push(&echo)
+                self.push(&echo)
             }
             _ => Ok(()),
         }
@@ -242,7 +359,7 @@ impl Live {
         ensures { self.new.master ≡ self.old.master }
     {
         let event = events::update(self.alloc, status)?;
-        self.out.push(&event)
+        self.push(&event)
     }
 
     /// Sends the FAILURE of an executor that was shut down.
@@ -254,6 +371,23 @@ impl Live {
             executor_id: Some(body.executor_id.copy(self.alloc)?),
             status: None,
         };
-        self.out.push(&Event::Failure(failure))
+        self.push(&Event::Failure(failure))
+    }
+}
+
+/// Returns the framework that sends a call other than SUBSCRIBE.
+fn framework_of(call: &Call) -> Option<&Id> {
+    match call {
+        Call::Subscribe { .. } => None,
+        Call::Accept { framework_id, .. }
+        | Call::Decline { framework_id, .. }
+        | Call::Revive { framework_id }
+        | Call::Kill { framework_id, .. }
+        | Call::Acknowledge { framework_id, .. }
+        | Call::Reconcile { framework_id, .. }
+        | Call::Teardown { framework_id }
+        | Call::Suppress { framework_id }
+        | Call::Shutdown { framework_id, .. }
+        | Call::Message { framework_id, .. } => Some(framework_id),
     }
 }

@@ -1,9 +1,11 @@
 //! How a live test master takes events from outside.
-ghost use Rattle.std.specs.Prelude.{◌≡◌};
+ghost use Rattle.std.specs.Prelude.{◌≡◌, OnOk};
+ghost use Rattle.mes_double_live.specs.Lives.{with_stock};
 ghost use Rattle.mes_double_live.specs.Moving.{Moves};
 
 use super::Live;
 use crate::fault::LiveFault;
+use crate::stream_body::BUSY;
 use mes_double_master::MasterRefusal;
 use mes_json::NoMemory;
 use mes_model::{Id, Offer, TaskStatus};
@@ -13,6 +15,12 @@ impl Live {
     /// Takes an event from outside. OFFERS join the stock, and SUBSCRIBED is dropped. Any other
     /// event is sent on the current stream, or without one on the next, in order; RESCIND and UPDATE go
     /// through the master, and are dropped if the master refuses them.
+    ///
+    /// Events of these types are not sent. BUSY: the next call gets the status 503, and is not carried
+    /// out. The others take effect in order. LOSE: the next event is not sent. TWICE: it is sent
+    /// twice. Neither concerns the test master's own HEARTBEATs. MUTE: events are lost, until SPEAK
+    /// or the next stream. BREAK: the stream breaks after the bytes before; events after it wait for
+    /// the next stream.
     pub fn told(&mut self, event: Event) -> Result<(), LiveFault>
         // The test master changes only by its own deeds, and what these launch fits.
         ensures { Moves self.old.master self.new.master }
@@ -23,13 +31,33 @@ impl Live {
                 self.stock(offers.into_vec())?;
                 self.send_due()
             }
-            event => self.take(event),
+            event => self.take_other(event),
         }
+    }
+
+    /// Has one more call answered with 503 for a BUSY, or takes another event.
+    fn take_other(&mut self, event: Event) -> Result<(), LiveFault>
+        ensures { Moves self.old.master self.new.master }
+    {
+        if is_busy(&event) {
+            self.add_busy();
+            Ok(())
+        } else {
+            self.take(event)
+        }
+    }
+
+    /// Has one more call answered with 503.
+    fn add_busy(&mut self)
+        ensures { self.new.master ≡ self.old.master }
+    {
+        self.busy = self.busy.saturating_add(1);
     }
 
     /// Adds offers to the stock.
     fn stock(&mut self, offers: Vec<Offer>) -> Result<(), NoMemory>
-        ensures { self.new ≡ self.old }
+        ensures same { self.new.master ≡ self.old.master }
+        ensures stocked { OnOk result (self.new ≡ with_stock offers.items self.old) }
     {
         self.cluster.stock(offers)
     }
@@ -39,7 +67,7 @@ impl Live {
     fn take(&mut self, event: Event) -> Result<(), LiveFault>
         ensures { Moves self.old.master self.new.master }
     {
-        if !self.has_stream() || !self.waiting.is_empty() {
+        if !self.has_stream() || !self.waiting.is_empty() || !self.out.takes_more(usize::MAX) {
             return self.store(event);
         }
         self.deliver(&event)?;
@@ -62,7 +90,7 @@ impl Live {
         ensures { Moves self.old.master self.new.master }
     {
         for _ in 0..self.waiting.len() {
-            if self.out.pending().len() > most {
+            if !self.out.takes_more(most) {
                 return Ok(());
             }
             self.deliver_first()?;
@@ -108,10 +136,24 @@ impl Live {
         }
     }
 
+    /// Sends an event, or does what its name demands of the stream.
     fn send(&mut self, event: &Event) -> Result<(), LiveFault>
         ensures { self.new.master ≡ self.old.master }
     {
-        self.out.push(event)
+        if self.obeys(event) {
+            return Ok(());
+        }
+        self.push(event)
+    }
+
+    /// Does what the name of an event demands of the stream. Returns false if it demands nothing.
+    fn obeys(&mut self, event: &Event) -> bool
+        ensures { self.new.master ≡ self.old.master }
+    {
+        match event {
+            Event::Other(name) => self.out.obey(name.as_str()),
+            _ => false,
+        }
     }
 
     /// Takes an offer back. Returns false if the master refuses.
@@ -158,5 +200,13 @@ impl Live {
         self.cluster
             .overtaken(&status.task_id, status.state, self.time);
         Ok(())
+    }
+}
+
+/// Returns whether the event is a BUSY.
+fn is_busy(event: &Event) -> bool {
+    match event {
+        Event::Other(name) => name.as_str() == BUSY,
+        _ => false,
     }
 }

@@ -1,7 +1,8 @@
 //! Streams in either framing, read from a device.
 use super::readers::{Fed, Reader, fed, finished, kept, reader};
 use super::*;
-use mes_stream::{Body, StreamReader, read_events, read_stream};
+use mes_msg::Event;
+use mes_stream::{Body, StreamReader, read_messages, read_stream};
 
 // More reads than any stream of these tests needs.
 const MANY: u64 = 1_000_000;
@@ -72,9 +73,9 @@ fn expect_rest<R: Abort>(rt: &R, end: Result<Report, Stop>, rest: &[u8]) -> Resu
 
 // Reads through the function for either framing.
 fn end_of_events(alloc: Global, source: &mut MemorySource<'_>) -> Result<Report, Stop> {
-    let mut events = Vec::new(alloc);
+    let mut events = Vec::<Event>::new(alloc);
     let limit = Limit::USUAL;
-    read_events(alloc, source, Framing::Chunked, limit, 9, &mut events)
+    read_messages(alloc, source, Framing::Chunked, limit, 9, &mut events)
 }
 
 // Reads through the function for chunked streams.

@@ -8,6 +8,7 @@ use crate::connection::Served;
 use crate::desk::{Answered, Desk};
 use crate::lines::{StreamEnd, answered_line, ended_line, opened_line};
 use http::StatusCode;
+use mes_double_faults::CallFault;
 use mes_double_http::StreamId;
 use mes_double_live::{EndedStream, LiveFault, Reply};
 use mes_frame::{Sink, Source};
@@ -21,7 +22,7 @@ impl<'a, D: Desk, I: Source, O: Sink> Server<'a, D, I, O> {
             return Ok(());
         };
         let mut served = Vec::new(self.alloc);
-        let outcome = connection.serve(&mut self.desk, &mut served);
+        let outcome = connection.serve(&mut self.desk, self.now, &mut served);
         self.note_all(place, served)?;
         outcome
     }
@@ -45,6 +46,12 @@ impl<'a, D: Desk, I: Source, O: Sink> Server<'a, D, I, O> {
                 self.print_answered(*status, "-");
                 Ok(())
             }
+            Served::Demanded(status) => {
+                self.print_answered(Some(*status), "-");
+                Ok(())
+            }
+            // A page that is open asks for the state again and again.
+            Served::Shown => Ok(()),
         }
     }
 
@@ -66,13 +73,24 @@ impl<'a, D: Desk, I: Source, O: Sink> Server<'a, D, I, O> {
         ensures { Keeps D.follows self.old.desk self.new.desk }
     {
         let reply = &answered.reply;
+        self.print_happened();
         self.print_answered(Some(reply.status), answered.name);
         self.end_replaced(reply)?;
         if let Some(id) = &reply.opened {
             self.printer.push(opened_line(id).as_str());
             self.streaming = Some(place);
+            self.close_unanswered(place, reply);
         }
         Ok(())
+    }
+
+    /// Closes the connection of a new stream whose SUBSCRIBE gets no response.
+    fn close_unanswered(&mut self, place: usize, reply: &Reply)
+        ensures { Keeps D.follows self.old.desk self.new.desk }
+    {
+        if reply.fault == Some(CallFault::Unanswered) {
+            self.close(place, StreamEnd::Closed);
+        }
     }
 
     /// Prints the line of a request.
@@ -91,6 +109,8 @@ impl<'a, D: Desk, I: Source, O: Sink> Server<'a, D, I, O> {
             Some(ended) => {
                 if reply.opened.is_some() {
                     self.end_stream(ended, StreamEnd::Replaced)
+                } else if reply.fault == Some(CallFault::Gone) {
+                    self.end_stream(ended, StreamEnd::Removed)
                 } else {
                     self.is_torn_down = true;
                     self.end_stream(ended, StreamEnd::Teardown)

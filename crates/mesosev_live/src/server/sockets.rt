@@ -57,10 +57,24 @@ impl<'a, D: Desk, I: Source, O: Sink> Server<'a, D, I, O> {
         ensures { Keeps D.follows self.old.desk self.new.desk }
     {
         self.write_full(place);
+        if self.desk.resets_next() && self.places.has_call(place) {
+            return self.reset(place);
+        }
         match self.places.get(place) {
             Some(connection) => connection.take_if_readable(),
             None => Ok(Came::Nothing),
         }
+    }
+
+    /// Resets the connection on which a call comes: the system resets a connection that is closed
+    /// while bytes are not read.
+    fn reset(&mut self, place: usize) -> Result<Came, LiveFault>
+        ensures { Keeps D.follows self.old.desk self.new.desk }
+    {
+        self.desk.reset()?;
+        self.print_happened();
+        self.close(place, StreamEnd::Closed);
+        Ok(Came::Nothing)
     }
 
     /// Writes a connection on which too many bytes of responses wait.
@@ -150,6 +164,9 @@ impl<'a, D: Desk, I: Source, O: Sink> Server<'a, D, I, O> {
             let Some(connection) = self.places.get(place) else {
                 return false;
             };
+            if connection.is_late(self.now) {
+                return false;
+            }
             if connection.is_written() {
                 return true;
             }

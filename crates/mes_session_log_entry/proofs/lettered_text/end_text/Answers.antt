@@ -2,7 +2,7 @@ use Rattle.std.proofs.Common.{ap, Err, ◌∙◌}
 use Rattle.std.proofs.lemmas.Result.{err_from_is_err_and}
 use Rattle.mes_json.proofs.LexerLemmas.{text_begins}
 use Rattle.mes_msg_record.proofs.RecordLemmas.{begins, refused_by}
-use Rattle.mes_stream.proofs.EventLemmas.{begins_known, known_read}
+use Rattle.mes_stream.proofs.MessageLemmas.{begins_known, known_read}
 use Rattle.mes_session_log_entry.proofs.LetteredLemmas.{text_refused, lexed_refused}
 use Rattle.mes_session_log_entry.proofs.lettered_text.end_text.Goals as goal
 

@@ -5,7 +5,7 @@ pub returns-in-Show : goal.returns-in-Show
 returns-in-Show g c = rw c.in-Show.is c.show.ensures
 
 pub returns-in-Convert : goal.returns-in-Convert
-returns-in-Convert g c = rw c.in-Convert.is (c.convert.result, c.convert.ensures, refl)
+returns-in-Convert g c = rw c.in-Convert.is (c.convert_all.result, c.convert_all.ensures, refl)
 
 pub returns-in-Replay : goal.returns-in-Replay
 returns-in-Replay g c = rw c.in-Replay.is c.replay_log.ensures

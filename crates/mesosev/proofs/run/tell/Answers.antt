@@ -12,3 +12,6 @@ returns-in-Ok g c =
     let old : Device = record { bytes = (g.E.Sink.device c.args.err.now).bytes; counts = (g.E.Sink.device c.args.err.now).counts } in
     let new : Device = record { bytes = (g.E.Sink.device c.print_text.new.out).bytes; counts = (g.E.Sink.device c.print_text.new.out).counts } in
     rw c.in-BadValue.is (inl (prints_line old new c.as_str.result.now (bad_value_line c.in-BadValue.name.now) exit.Usage c.after.result line (prints_meant old new c.as_str.result.now exit.Usage _ _ c.print_text.ensures c.after.ensures), refl))
+
+pub returns-in-Conflict : goal.returns-in-Conflict
+returns-in-Conflict g c = rw c.in-Conflict.is c.tell_conflict.ensures

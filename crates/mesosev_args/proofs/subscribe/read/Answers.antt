@@ -1,4 +1,4 @@
-use Rattle.std.proofs.Common.{refl, rules}
+use Rattle.std.proofs.Common.{inl, refl, rules}
 use Rattle.std.specs.Prelude.{codes}
 use Rattle.clap.specs.Words.{found_of, rows_of}
 use Rattle.mesosev_args.specs.NamedOptions.{the_name, the_reads, the_to, the_user}
@@ -17,10 +17,10 @@ returns-in_err-to c =
 
 pub returns-in_err-user : goal.returns-in_err-user
 returns-in_err-user c =
-    bad_text (rows_of (found_of c.args.found.now)) the_user c.in_err-user.field-0.0 c.from_residual-in_err-user.result (search rules) refl
-    (λ h. (subscribe_good (rows_of (found_of c.args.found.now)) h).1) c.in_err-user.ensures.err
+    bad_text (codes "subscribe") (rows_of (found_of c.args.found.now)) the_user c.in_err-user.field-0.0 c.from_residual-in_err-user.result (search rules) refl
+    (λ h. (subscribe_good (rows_of (found_of c.args.found.now)) h).1) (inl refl) c.in_err-user.ensures.err
 
 pub returns-in_err-name : goal.returns-in_err-name
 returns-in_err-name c =
-    bad_text (rows_of (found_of c.args.found.now)) the_name c.in_err-name.field-0.0 c.from_residual-in_err-name.result (search rules) refl
-    (λ h. (subscribe_good (rows_of (found_of c.args.found.now)) h).2) c.in_err-name.ensures.err
+    bad_text (codes "subscribe") (rows_of (found_of c.args.found.now)) the_name c.in_err-name.field-0.0 c.from_residual-in_err-name.result (search rules) refl
+    (λ h. (subscribe_good (rows_of (found_of c.args.found.now)) h).2) (inl refl) c.in_err-name.ensures.err

@@ -1,7 +1,7 @@
 use Rattle.std.proofs.Common.{◌≡◌, ◌∙◌, ap, ℕ, List, [], ◌++◌, refl, sym, take, drop, append_assoc}
 use Rattle.std.proofs.lemmas.List.{take-append-drop}
 use Rattle.mes_msg.specs.Events.{Spells}
-use Rattle.mes_stream.specs.EventData.{HoldsData}
+use Rattle.mes_stream.specs.MessageData.{HoldsData}
 use Rattle.mes_stream.specs.Refusals.{IsEventRefusal}
 use Rattle.mes_stream.proofs.ReadingLemmas.{gathers_none}
 use Rattle.mesosev_live.proofs.input.decode.Goals as goal
@@ -20,4 +20,14 @@ loop-rest-preserved c =
       h.0 ++ c.split_at.result.0.now,
       split_more _ _ _ _ _ _ h.1 c.split_at.ensures.front c.split_at.ensures.back,
       c.in-Ok.ensures.more c.args.reading.now c.args.events.now h.0 h.2,
+    )
+
+pub returns-in-Err-clause-stop : goal.returns-in-Err-clause-stop
+returns-in-Err-clause-stop c =
+    let h = c.loop-rest.invariant in (
+      h.0,
+      c.split_at.result.0.now,
+      c.split_at.result.1.now,
+      split_more _ _ _ _ _ _ h.1 c.split_at.ensures.front c.split_at.ensures.back ∙ append_assoc h.0 c.split_at.result.0.now c.split_at.result.1.now,
+      c.in-Err.ensures.stop c.args.reading.now c.args.events.now h.0 h.2,
     )

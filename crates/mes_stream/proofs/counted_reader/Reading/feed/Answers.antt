@@ -34,3 +34,17 @@ returns-in-Fault-clause-takes g c = λ ahead framing limit w before s.
         last = omega (arith, one, small, length-append w c.args.piece.now);
       },
     )
+
+pub returns-in-End-clause-within : goal.returns-in-End-clause-within
+returns-in-End-clause-within g c = λ ahead framing limit w before s.
+    let fed = rw c.in-End.is at (c.feed-used.ensures.feeds ahead.records framing limit w before s.0) in
+    let some = fed.2 in
+    let counted = s.1 in
+    omega (arith, some, counted, c.keep_rest.ensures.used, c.saturating_add-self.ensures)
+
+pub returns-in-Fault-clause-within : goal.returns-in-Fault-clause-within
+returns-in-Fault-clause-within g c = λ ahead framing limit w before s.
+    let fed = rw c.in-Fault.is at (c.feed-used.ensures.feeds ahead.records framing limit w before s.0) in
+    let some = fed.2 in
+    let counted = s.1 in
+    omega (arith, some, counted, c.saturating_add-self.ensures)

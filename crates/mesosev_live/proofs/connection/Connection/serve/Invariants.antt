@@ -7,6 +7,6 @@ use Rattle.mesosev_live.proofs.connection.Connection.serve.Given as goal
 abbrev pub invariant-loop : goal.invariant-loop
 invariant-loop g l = record {
   kept : Keeps g.D.Desk.follows l.fn.desk l.desk;
-  turns : Serves g.D.Desk.answers l.fn.self l.fn.desk l.served.items l.self l.desk;
+  turns : Serves g.D.Desk.answers g.D.Desk.shows g.D.Desk.takes l.fn.self l.fn.desk l.served.items l.self l.desk;
   count : length l.served.items ≡ l.counter;
 }

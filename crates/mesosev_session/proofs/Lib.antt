@@ -1,0 +1,2 @@
+mod SubscribeLemmas
+mod RecordLemmas

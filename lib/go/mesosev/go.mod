@@ -1,0 +1,3 @@
+module mesosev
+
+go 1.19
