@@ -173,7 +173,10 @@ class Server:
                 self.request += more
             for piece in self.pieces:
                 client.sendall(piece)
-            client.shutdown(socket.SHUT_WR)
+            try:
+                client.shutdown(socket.SHUT_WR)
+            except OSError:  # the program has ended, and reset the connection
+                return
             self.rest = read_all(client)
 
 

@@ -11,7 +11,7 @@ use Rattle.mes_double_faults.specs.Texts.{HasNoFault, IsInRange as IsFaultInRang
 use Rattle.mes_double_faults.specs.declared.fault.Fault.{Fault}
 use Rattle.mesosev_args.specs.OptionValues.{NamesFault, fault_texts}
 
--- the texts behind references
+-- the texts of references
 abbrev pub texts_of : List (Bor Text) → List Text
 texts_of = map (λ text. text.now)
 

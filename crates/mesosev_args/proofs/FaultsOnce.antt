@@ -1,5 +1,5 @@
--- A text is that of at most one fault. What stands before its first colon decides how the fault is
--- made of the numbers behind it.
+-- A text is that of at most one fault. The word before its first colon decides how the fault is made
+-- of the numbers after it.
 use Rattle.std.proofs.Common.{◌≡◌, ◌++◌, ◌==◌, ◌∙◌, ap, ℕ, List, [], ◌∷◌, Bool, true, false, Option, Some, None, refl, sym, subst, arith}
 use Rattle.std.specs.Prelude.{codes, find, option_map, if◌then◌else◌}
 use Rattle.std.specs.List.{AllZip}
