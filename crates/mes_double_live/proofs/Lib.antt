@@ -2,3 +2,8 @@ pub mod MoveLemmas
 pub mod FitLemmas
 pub mod SafeLemmas
 pub mod TakenLemmas
+pub mod StepLemmas
+pub mod OpenLemmas
+pub mod ChunkLemmas
+pub mod KeepLemmas
+pub mod PlainLemmas

@@ -28,4 +28,4 @@ pub use live::Live;
 pub use reply::{EndedStream, Reply};
 pub use run_log::{LogEntry, MAX_LOG};
 pub use settings::Settings;
-pub use theorems::live_laws;
+pub use theorems::{live_laws, stream_laws};

@@ -1,16 +1,20 @@
 //! The state of a live test master. `calling.rt` handles calls, `accepting.rt` ACCEPT, and
-//! `telling.rt` the events from outside. `logging.rt` sends events and logs them, and `reading.rt`
-//! has the read access to the state.
-ghost use Rattle.std.specs.Prelude.{◌≡◌, ◌≤◌, option_copied, IfOk, OnOk};
+//! `telling.rt` the events from outside. `reporting.rt` sends updates, `logging.rt` sends events and
+//! logs them, and `reading.rt` has the read access to the state.
+ghost use Rattle.std.specs.Prelude.{◌≡◌, ◌≤◌, [], ◌∷◌, true, is_some, option_copied, IfOk, OnOk};
 ghost use Rattle.mes_double_cluster.specs.Clusters.{offer_at};
-ghost use Rattle.mes_double_live.specs.Bodies.{empty, written, breaks_now};
-ghost use Rattle.mes_double_live.specs.Lives.{at_time, broke, faults_taken, new_live, update_sent};
+ghost use Rattle.mes_double_live.specs.Bodies.{empty, written, breaks_now, cleared, released};
+ghost use Rattle.mes_double_live.specs.Lives.{at_time, broke, faults_taken, new_live};
 ghost use Rattle.mes_double_live.specs.Moving.{Moves};
+ghost use Rattle.mes_double_live.specs.Opening.{Makes};
+ghost use Rattle.mes_double_live.specs.BodySteps.{StepsTo};
+ghost use Rattle.mes_double_live.specs.BodySteps.BodyStep.{beats};
 
 mod accepting;
 mod calling;
 mod logging;
 mod reading;
+mod reporting;
 mod telling;
 
 use crate::fault::LiveFault;
@@ -24,7 +28,7 @@ use mes_double_http::StreamId;
 use mes_double_master::{Master, MasterRefusal};
 use mes_frame::{MAX_CHUNK, MIN_CHUNK};
 use mes_json::NoMemory;
-use mes_model::{Offer, TaskStatus};
+use mes_model::Offer;
 use mes_model_schema::List;
 use mes_msg::Event;
 use std::alloc::Global;
@@ -134,7 +138,9 @@ impl Live {
         }
     }
 
-    fn has_stream(&self) -> bool {
+    fn has_stream(&self) -> bool
+        ensures { result ≡ is_some self.now.master.stream }
+    {
         self.master.stream().is_some()
     }
 
@@ -157,6 +163,7 @@ impl Live {
     pub fn take_happened(&mut self) -> Vec<Fault>
         ensures taken { result.items ≡ self.old.out.happened }
         ensures rest { self.new ≡ faults_taken self.old }
+        ensures steps { StepsTo self.old.out self.new.out }
     {
         let happened = self.out.take_happened();
         self.taken = self.taken.saturating_add(happened.len() as u64);
@@ -165,7 +172,8 @@ impl Live {
 
     /// Notes that the first `count` pending bytes were written.
     pub fn wrote(&mut self, count: usize)
-        ensures { self.new ≡ record self.old { out = written count self.old.out } }
+        ensures state { self.new ≡ record self.old { out = written count self.old.out } }
+        ensures steps { StepsTo self.old.out self.new.out }
     {
         self.out.wrote(count);
     }
@@ -175,6 +183,7 @@ impl Live {
     pub fn broken(&mut self)
         ensures state { self.new ≡ broke self.old }
         ensures moves { Moves self.old.master self.new.master }
+        ensures steps { StepsTo self.old.out self.new.out }
     {
         self.master.broken();
         self.cluster.disconnected(self.time);
@@ -184,7 +193,8 @@ impl Live {
     /// Ends the current stream by the events that wait for it and its last chunk, and returns what is
     /// not written of it, or `None` without a stream. Otherwise it is like [`Live::broken`].
     pub fn stop(&mut self) -> Result<Option<EndedStream>, LiveFault>
-        ensures { Moves self.old.master self.new.master }
+        ensures moves { Moves self.old.master self.new.master }
+        ensures steps { OnOk result (StepsTo self.old.out self.new.out) }
     {
         let Some(id) = self.current() else {
             return Ok(None);
@@ -196,14 +206,17 @@ impl Live {
 
     /// Notes in the master that the current stream was disconnected.
     fn break_stream(&mut self)
-        ensures { Moves self.old.master self.new.master }
+        ensures moves { Moves self.old.master self.new.master }
+        ensures kept { self.new.out ≡ self.old.out }
     {
         self.master.broken();
     }
 
     /// Ends the current stream by its last chunk. The offers that were outstanding are free.
     fn end_stream(&mut self, id: StreamId) -> Result<EndedStream, LiveFault>
-        ensures { self.new.master ≡ self.old.master }
+        ensures same { self.new.master ≡ self.old.master }
+        ensures cleared { OnOk result (self.new.out ≡ cleared self.old.out) }
+        ensures time { self.new.time ≡ self.old.time }
     {
         self.cluster.disconnected(self.time);
         let rest = self.out.end()?;
@@ -215,7 +228,8 @@ impl Live {
     /// due. A time before the latest one counts as that one.
     pub fn passed(&mut self, now: u64) -> Result<(), LiveFault>
         // The test master changes only by its own deeds, and what these launch fits.
-        ensures { Moves self.old.master self.new.master }
+        ensures moves { Moves self.old.master self.new.master }
+        ensures steps { OnOk result (StepsTo self.old.out self.new.out) }
     {
         self.note_time(now);
         if !self.has_stream() {
@@ -230,7 +244,9 @@ impl Live {
 
     /// Ends that bytes of a late event are held, if their time has come.
     fn release(&mut self) -> Result<(), NoMemory>
-        ensures { self.new.master ≡ self.old.master }
+        ensures same { self.new.master ≡ self.old.master }
+        ensures released { OnOk result
+            (self.new.out ≡ released self.old.time self.old.out) }
     {
         self.out.release(self.time)
     }
@@ -243,7 +259,8 @@ impl Live {
 
     /// Sends a HEARTBEAT if one is due.
     fn beat_due(&mut self) -> Result<(), LiveFault>
-        ensures { self.new.master ≡ self.old.master }
+        ensures same { self.new.master ≡ self.old.master }
+        ensures steps { OnOk result (StepsTo self.old.out self.new.out) }
     {
         if self.beats_at <= self.time {
             self.beat()
@@ -284,7 +301,10 @@ impl Live {
     /// Sends a HEARTBEAT on the current stream. The next one is due an interval later. Does nothing
     /// without a stream.
     pub fn beat(&mut self) -> Result<(), LiveFault>
-        ensures { self.new.master ≡ self.old.master }
+        ensures same { self.new.master ≡ self.old.master }
+        ensures steps { OnOk result (StepsTo self.old.out self.new.out) }
+        ensures beats { OnOk result (is_some self.old.master.stream ≡ true
+            → Makes (beats ∷ []) self.old self.new) }
     {
         if !self.has_stream() {
             return Ok(());
@@ -293,50 +313,10 @@ impl Live {
         self.out.beat()
     }
 
-    /// Sends the updates again whose time has come.
-    fn resend_due(&mut self) -> Result<(), LiveFault>
-        ensures { self.new.master ≡ self.old.master }
-    {
-        let Some(every) = self.settings.resend else {
-            return Ok(());
-        };
-        for index in 0..self.sent.len() {
-            if let Some(due) = self.sent.due_from(index, every)
-                && due <= self.time
-            {
-                self.resend(index)?;
-            }
-        }
-        Ok(())
-    }
-
-    /// Sends all unacknowledged updates again.
-    fn resend_all(&mut self) -> Result<(), LiveFault>
-        ensures { self.new.master ≡ self.old.master }
-    {
-        for index in 0..self.sent.len() {
-            self.resend(index)?;
-        }
-        Ok(())
-    }
-
-    /// Sends the unacknowledged update at an index again.
-    fn resend(&mut self, index: usize) -> Result<(), LiveFault>
-        ensures { self.new.master ≡ self.old.master }
-    {
-        match self.master.resend(index) {
-            Ok(event) => {
-                self.sent.sent_again(index, self.time);
-                self.push(&event)
-            }
-            Err(MasterRefusal::NoMemory) => Err(LiveFault::NoMemory),
-            Err(_) => Ok(()),
-        }
-    }
-
     /// Sends the updates and then the offers that are due. Does nothing without a stream.
     fn send_due(&mut self) -> Result<(), LiveFault>
-        ensures { Moves self.old.master self.new.master }
+        ensures moves { Moves self.old.master self.new.master }
+        ensures steps { OnOk result (StepsTo self.old.out self.new.out) }
     {
         if !self.has_stream() {
             return Ok(());
@@ -345,89 +325,10 @@ impl Live {
         self.offer_due()
     }
 
-    /// Sends the next update of each task that has one due.
-    fn report_due(&mut self) -> Result<(), LiveFault>
-        ensures { Moves self.old.master self.new.master }
-    {
-        for index in 0..self.tasks_len() {
-            self.report_at(index)?;
-        }
-        Ok(())
-    }
-
-    /// Sends the next update of the task at an index, if it is due.
-    fn report_at(&mut self, index: usize) -> Result<(), LiveFault>
-        ensures { Moves self.old.master self.new.master }
-    {
-        match self.status_due(index)? {
-            Some(status) => self.report(index, &status),
-            None => Ok(()),
-        }
-    }
-
-    fn tasks_len(&self) -> usize {
-        self.cluster.tasks_len()
-    }
-
-    /// Returns the next status of the task at an index, if it is due.
-    fn status_due(&self, index: usize) -> Result<Option<TaskStatus>, NoMemory> {
-        self.cluster.status_at(index, self.time)
-    }
-
-    /// Sends the update of the task at an index. If its uuid was used by an event from outside, the
-    /// update gets the next one later.
-    fn report(&mut self, index: usize, status: &TaskStatus) -> Result<(), LiveFault>
-        ensures { Moves self.old.master self.new.master }
-    {
-        match self.update(status)? {
-            Some(event) => self.send_first(index, status, &event),
-            None => {
-                self.cluster.skip_update();
-                Ok(())
-            }
-        }
-    }
-
-    /// Returns the UPDATE of a status, or `None` if the master refuses it.
-    fn update(&mut self, status: &TaskStatus) -> Result<Option<Event>, NoMemory>
-        ensures { Moves self.old.master self.new.master }
-    {
-        match self.master.update(status) {
-            Ok(event) => Ok(Some(event)),
-            Err(MasterRefusal::NoMemory) => Err(NoMemory),
-            Err(_) => Ok(None),
-        }
-    }
-
-    /// Sends the update of the task at an index for the first time.
-    fn send_first(
-        &mut self,
-        index: usize,
-        status: &TaskStatus,
-        event: &Event,
-    ) -> Result<(), LiveFault>
-        ensures { self.new.master ≡ self.old.master }
-    {
-        self.cluster.reported(index, status.state, self.time);
-        self.note_sent(status)?;
-        self.push(event)
-    }
-
-    /// Notes the time at which an update was sent for the first time, if it requires an
-    /// acknowledgement.
-    fn note_sent(&mut self, status: &TaskStatus) -> Result<(), NoMemory>
-        ensures same { self.new.master ≡ self.old.master }
-        ensures noted { OnOk result (self.new ≡ update_sent status.now self.old) }
-    {
-        match status.owed_key(self.alloc)? {
-            Some(key) => self.sent.push(key, self.time),
-            None => Ok(()),
-        }
-    }
-
     /// Makes the offers that are due, and sends them in one event.
     fn offer_due(&mut self) -> Result<(), LiveFault>
-        ensures { Moves self.old.master self.new.master }
+        ensures moves { Moves self.old.master self.new.master }
+        ensures steps { OnOk result (StepsTo self.old.out self.new.out) }
     {
         let made = self.make_offers()?;
         if made.is_empty() {
@@ -438,7 +339,8 @@ impl Live {
 
     /// Makes the offers that are due.
     fn make_offers(&mut self) -> Result<Vec<Offer>, LiveFault>
-        ensures { Moves self.old.master self.new.master }
+        ensures moves { Moves self.old.master self.new.master }
+        ensures kept { self.new.out ≡ self.old.out }
     {
         let mut made = Vec::new(self.alloc());
         for index in 0..self.stock_len() {
@@ -450,7 +352,8 @@ impl Live {
     /// Makes the offer at an index of the stock, if it is due, and appends it to those that were
     /// made.
     fn make_offer_at(&mut self, index: usize, made: &mut Vec<Offer>) -> Result<(), LiveFault>
-        ensures { Moves self.old.master self.new.master }
+        ensures moves { Moves self.old.master self.new.master }
+        ensures kept { self.new.out ≡ self.old.out }
     {
         match self.next_offer(index)? {
             Some(offer) => self.make_offer(index, offer, made),
@@ -480,7 +383,8 @@ impl Live {
         offer: Offer,
         made: &mut Vec<Offer>,
     ) -> Result<(), LiveFault>
-        ensures { Moves self.old.master self.new.master }
+        ensures moves { Moves self.old.master self.new.master }
+        ensures kept { self.new.out ≡ self.old.out }
     {
         match self.master.note_offers(slice::from_ref(&offer)) {
             Ok(()) => {

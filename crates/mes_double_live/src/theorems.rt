@@ -1,9 +1,16 @@
-//! Theorems about the changes of the test master, stated as the contract of an empty function.
-ghost use Rattle.std.specs.Prelude.{ℕ, List, Option as option};
+//! Theorems about the changes of the test master and of the body of its current stream. Each is
+//! stated as the contract of an empty function.
+ghost use Rattle.std.specs.Prelude.{ℕ, ◌^◌, ◌<◌, ◌∷◌, ◌++◌, List, Option as option};
+ghost use Rattle.std.specs.List.{AllByRecursion};
+ghost use Rattle.mes_frame.specs.Chunk.{IsChunked};
 ghost use Rattle.mes_model.specs.Id.{Id};
+ghost use Rattle.mes_double_faults.specs.Plans.{Plan};
 ghost use Rattle.mes_double_master.specs.Masters.{MasterState};
 ghost use Rattle.mes_double_master.specs.Runs.{master_with};
+ghost use Rattle.mes_double_live.specs.Bodies.{BodyState, empty, cleared, last_chunk};
 ghost use Rattle.mes_double_live.specs.Moving.{Moves, IsSafe};
+ghost use Rattle.mes_double_live.specs.BodySteps.{BodyStep, Leads, StepsTo, IsFaultless, IsFresh, IsPlain, gone, sent_records};
+ghost use Rattle.mes_double_live.specs.BodySteps.BodyStep.{clears};
 
 /// Proves what holds of the test master of a [`Live`](crate::Live) after any sequence of inputs,
 /// whatever clients, time and faults do. Each method of `Live` ensures `Moves`: the test master
@@ -20,4 +27,32 @@ pub fn live_laws()
     // From a new test master on, all promises are kept.
     ensures safe { (framework : Id) (ids : List (List ℕ)) (interval : option ℕ) (m : MasterState)
         → Moves (master_with framework ids interval) m → IsSafe framework ids interval m }
+{}
+
+/// Proves what the bytes of a stream of a [`Live`](crate::Live) are. Each method of `Live` that
+/// succeeds ensures `StepsTo`: the body of the stream changes only by steps, and each step appends
+/// the chunks of one record, writes bytes, or ends the stream.
+///
+/// - Methods that are called one after another change the body as one does.
+/// - On a stream without faults, the bytes written and pending, followed by a last chunk, are a
+///   chunked body. Its data are the records of the events that were sent, in order.
+pub fn stream_laws()
+    // No step leaves the body as it is.
+    ensures none { (body : BodyState) → StepsTo body body }
+    // Steps that follow one another are steps.
+    ensures then { (a b c : BodyState) → StepsTo a b → StepsTo b c → StepsTo a c }
+    // The body of a new test master is that of a stream on which nothing was sent.
+    ensures first { (most : ℕ) (plan : Plan) → IsFresh (empty most plan) }
+    // So is the body after a stream ended.
+    ensures next { (body : BodyState) → IsFresh (cleared body) }
+    // The bytes of the first stream.
+    ensures bytes { (old new : BodyState) (steps : List BodyStep) → IsFresh old
+        → old.most < 2 ^ 64 → IsFaultless old.plan → AllByRecursion IsPlain steps
+        → Leads old steps new
+        → IsChunked (gone steps ++ new.pending ++ last_chunk) (sent_records steps) }
+    // The bytes of each further stream, whatever was sent, demanded and lost on those before.
+    ensures later { (old new : BodyState) (before steps : List BodyStep) → old.most < 2 ^ 64
+        → IsFaultless old.plan → AllByRecursion IsPlain steps
+        → Leads old (before ++ clears ∷ steps) new
+        → IsChunked (gone steps ++ new.pending ++ last_chunk) (sent_records steps) }
 {}

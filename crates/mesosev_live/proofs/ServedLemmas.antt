@@ -92,7 +92,7 @@ sent_first : (r s a b c : List ℕ) → b ≡ a ++ r → c ≡ b ++ s → c ≡ 
 sent_first r s a b c first next = next ∙ ap (λ (t : List ℕ). t ++ s) first ∙ append_assoc a r s
 
 refused_stays : (old new : List ℕ) (status : Option ℕ) → RefusesNext old new status → new ≡ old
-refused_stays old new status (inl (f, takes, is)) = takes.0
+refused_stays old new status (inl (f, takes, is)) = takes.1.0
 refused_stays old new status (inr (inl (code, takes, is))) = takes.0
 refused_stays old new status (inr (inr (takes, is))) = takes.0
 
@@ -132,7 +132,7 @@ shown_exchange shows takes old d (asked.Fault body) p next e Shown taken none = 
 
 one_exchange : {D : Type 0} (answers : Answers D) (shows : D → List ℕ) (takes : Takes D) (old : Connection) (d : D) (next : Connection) (e : D) (s : Served)
     → ServesNext answers shows takes old d next e (Some s) → Exchanges old next s
-one_exchange answers shows takes old d next e (Answered a) (request, p, serving, (taken, is, call, after), answered, out, phase) = (
+one_exchange answers shows takes old d next e (Answered a) (request, p, serving, (no_page, (taken, is, call, after)), answered, out, phase) = (
   record { request = taken; response = response_head a.reply p },
   (request, call, ap (response_head a.reply) after),
   is,

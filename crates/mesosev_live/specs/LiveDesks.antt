@@ -37,8 +37,8 @@ IsNoCall body = (fault : RecordFault) × IsFaultOf call body fault × (fault ≢
 abbrev pub IsNoEvent : List ℕ → Type 0
 IsNoEvent body = (fault : RecordFault) × IsFaultOf event body fault × (fault ≢ record_fault.NoMemory)
 
--- The body of a request to `/fault` is an event, which the test master takes as one of standard input;
--- or it is none, and nothing is changed.
+-- The body of a request to `/fault` is an event, and the response has status 202; or it is none, the
+-- status is 400, and nothing is changed.
 abbrev pub TakesEvent : LiveState → List ℕ → LiveState → ℕ → Type 0
 TakesEvent old body new status =
     ((e : Event) × IsTextOf event body e × Moves old.master new.master × (status ≡ 202))

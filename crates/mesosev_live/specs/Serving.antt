@@ -2,7 +2,7 @@
 use Rattle.std.specs.Prelude.{◌≡◌, ◌≢◌, ◌⊎◌, ℕ, ◌==◌, List, [], ◌∷◌, ◌++◌, length, Option, None, Some, if◌then◌else◌}
 use Rattle.mes_double_http.specs.Connections.{persistence}
 use Rattle.mes_double_http.specs.Faults.{response_status}
-use Rattle.mes_double_http.specs.Pages.{IsWholePage, TakesPage}
+use Rattle.mes_double_http.specs.Pages.{BeginsNoPage, IsWholePage, TakesPage}
 use Rattle.mes_double_http.specs.Received.{MayBeginCall, MayBeginHead, TakesNext}
 use Rattle.mes_double_http.specs.Requests.{EndsInBody, IsWholeCall}
 use Rattle.mes_double_http.specs.Texts.{ok_text, response_text, page_head}
@@ -16,6 +16,7 @@ use Rattle.mes_double_http.specs.declared.page_request.NextPage.TheVariants as p
 use Rattle.mes_double_http.specs.declared.page_writer.PageMedia.{PageMedia}
 use Rattle.mes_double_http.specs.declared.page_writer.PageMedia.TheVariants.{Html, Json}
 use Rattle.mes_double_http.specs.declared.request.Request.{Request}
+use Rattle.mes_double_http.specs.declared.request_reader.NextRequest.{NextRequest}
 use Rattle.mes_double_http.specs.declared.request_reader.NextRequest.TheVariants.{Whole, Fault}
 use Rattle.mes_double_faults.specs.declared.fault.CallFault.{CallFault}
 use Rattle.mes_double_faults.specs.declared.fault.CallFault.TheVariants.{Busy, Unanswered, Slow, Gone, Reset}
@@ -115,22 +116,26 @@ Shows shows takes old desk request p new after turn = ⊥
 abbrev pub AwaitsMore : List ℕ → Type 0
 AwaitsMore bytes = MayBeginCall bytes ⊎ TakesPage bytes bytes page.More
 
+-- the next request is read as a call: it is none for a page
+abbrev pub TakesCall : List ℕ → List ℕ → NextRequest → Type 0
+TakesCall old new next = BeginsNoPage old × TakesNext old new next
+
 -- the next request is refused: as a call, or as a request for a page
 abbrev pub RefusesNext : List ℕ → List ℕ → Option ℕ → Type 0
 RefusesNext old new status =
-    ((f : HeadFault) × TakesNext old new (Fault f) × (status ≡ response_status f))
+    ((f : HeadFault) × TakesCall old new (Fault f) × (status ≡ response_status f))
     ⊎ ((code : ℕ) × TakesPage old new (page.Refused code) × (status ≡ Some code))
     ⊎ (TakesPage old new page.NoMemory × (status ≡ None))
 
 -- One turn of a connection and its test master. No whole request is there, or the connection serves
--- no more. Or a request was taken, the test master answered it, and its response was appended. Or
+-- no more. Or a call was taken, the test master answered it, and its response was appended. Or
 -- the next one is refused, and the connection ends after the response. Or a request for a page was
 -- taken, and its response was appended.
 abbrev pub ServesNext : {D : Type 0} → Answers D → (D → List ℕ) → Takes D → Connection → D → Connection → D → Option Served → Type 0
 ServesNext answers shows takes old desk new after None =
     StaysAs old new × (after ≡ desk) × (old.phase ≡ Serving → AwaitsMore old.requests)
 ServesNext answers shows takes old desk new after (Some (served.Answered a)) =
-    (request : Request) × (p : Persistence) × (old.phase ≡ Serving) × TakesNext old.requests new.requests (Whole request p)
+    (request : Request) × (p : Persistence) × (old.phase ≡ Serving) × TakesCall old.requests new.requests (Whole request p)
     × answers desk request after a.reply
     × (new.out ≡ old.out ++ response_head a.reply p) × (new.phase ≡ response_phase a.reply p old.phase)
 ServesNext answers shows takes old desk new after (Some (served.Refused status)) =

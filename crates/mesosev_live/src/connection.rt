@@ -1,6 +1,7 @@
 //! One connection of the live test master. `paging.rt` has the requests for pages.
 
 ghost use Rattle.std.specs.Prelude.{◌≡◌, ◌≤◌, ◌==◌, ℕ, List, [], ◌∷◌, ◌++◌, length, OnOk, IfOk};
+ghost use Rattle.mes_double_http.specs.Pages.{BeginsNoPage};
 ghost use Rattle.mes_double_http.specs.Texts.{response_text};
 ghost use Rattle.mesosev_live.specs.Desks.{Keeps};
 ghost use Rattle.mesosev_live.specs.Runs.{Steps, bytes_of};
@@ -270,9 +271,10 @@ impl Connection {
         }
     }
 
-    /// Takes the next call, if a whole one is there, and appends the response.
+    /// Takes the next request as a call, if a whole one is there, and appends the response.
     fn serve_call<D: Desk>(&mut self, desk: &mut D, now: u64) -> Result<Option<Served>, LiveFault>
-        requires { self.old.phase ≡ Serving }
+        requires serving { self.old.phase ≡ Serving }
+        requires call { BeginsNoPage self.old.requests }
         ensures kept { Keeps D.follows desk.old desk.new }
         ensures next { IfOk result (ServesNext D.answers D.shows D.takes self.old desk.old self.new
             desk.new) }

@@ -6,6 +6,7 @@ ghost use Rattle.mes_session_state.specs.Calls.{accept_call};
 ghost use Rattle.mes_double_master.specs.Masters.{named, handled};
 ghost use Rattle.mes_double_live.specs.Lives.{OpensBy};
 ghost use Rattle.mes_double_live.specs.Moving.{Moves};
+ghost use Rattle.mes_double_live.specs.BodySteps.{StepsTo};
 
 use super::Live;
 use crate::fault::LiveFault;
@@ -46,10 +47,12 @@ impl Live {
         body: &Accept,
     ) -> Result<Reply, LiveFault>
         ensures moves { Moves self.old.master self.new.master }
+        ensures steps { OnOk result (StepsTo self.old.out self.new.out) }
         ensures status { IfOk result (λ reply. reply.status
             ≡ (handled self.old.master (of.Accept framework.now body.now)
             (option_copied stream.entry)).status) }
         ensures opened { IfOk result (λ reply. OpensBy reply.opened reply.status) }
+        ensures plain { IfOk result (λ reply. reply.opened ≡ none) }
     {
         let plan = launch_plan(self.alloc, &self.master, body)?;
         let ids = body.offer_ids.as_slice();
@@ -71,6 +74,7 @@ impl Live {
     ) -> Result<StatusCode, NoMemory>
         requires { Fits (named ids.now self.old.master.outstanding) tasks.now }
         ensures moves { Moves self.old.master self.new.master }
+        ensures kept { self.new.out ≡ self.old.out }
         ensures status { IfOk result (λ status. status
             ≡ (handled self.old.master (accept_call framework.now ids.now tasks.now none)
             (option_copied stream.entry)).status) }
@@ -82,7 +86,8 @@ impl Live {
 
     /// Notes in the cluster what was launched, and sends the statuses of the other tasks.
     fn note_launch(&mut self, body: &Accept, plan: &LaunchPlan) -> Result<(), LiveFault>
-        ensures { self.new.master ≡ self.old.master }
+        ensures same { self.new.master ≡ self.old.master }
+        ensures steps { OnOk result (StepsTo self.old.out self.new.out) }
     {
         let from = refusal_end(self.time, body.filters.as_ref());
         let ids = body.offer_ids.as_slice();
@@ -91,7 +96,8 @@ impl Live {
     }
 
     fn send_statuses(&mut self, statuses: &[TaskStatus]) -> Result<(), LiveFault>
-        ensures { self.new.master ≡ self.old.master }
+        ensures same { self.new.master ≡ self.old.master }
+        ensures steps { OnOk result (StepsTo self.old.out self.new.out) }
     {
         for status in statuses {
             self.send_status(status)?;

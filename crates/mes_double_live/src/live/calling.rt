@@ -1,10 +1,12 @@
 //! How a live test master handles calls.
-ghost use Rattle.std.specs.Prelude.{◌≡◌, [], None as none, option_copied, IfOk, OnOk};
+ghost use Rattle.std.specs.Prelude.{◌≡◌, [], ◌++◌, true, is_some, None as none, option_copied, IfOk, OnOk};
 ghost use Rattle.mes_session_state.specs.Calls.{tasks_of};
-ghost use Rattle.mes_double_master.specs.Masters.{handled};
-ghost use Rattle.mes_double_live.specs.Lives.{OpensBy, call_counted, call_status, planned_fault, reply_fault, resets};
+ghost use Rattle.mes_double_master.specs.Masters.{handled, is_subscribe, IsAnswer};
+ghost use Rattle.mes_double_live.specs.Lives.{OpensBy, call_counted, call_status, planned_fault, reply_fault, resets, status_by};
 ghost use Rattle.mes_double_live.specs.Logs.{call_answered, IsLogged};
 ghost use Rattle.mes_double_live.specs.Moving.{Moves};
+ghost use Rattle.mes_double_live.specs.Opening.{BeginsWith, Makes, OpensIf, beginning, opening, replacing, sending, unacknowledged};
+ghost use Rattle.mes_double_live.specs.BodySteps.{StepsTo};
 
 use super::{Live, MAX_AHEAD};
 use crate::fault::LiveFault;
@@ -37,12 +39,16 @@ impl Live {
     pub fn call(&mut self, stream: Option<&StreamId>, call: &Call) -> Result<Reply, LiveFault>
         // The test master changes only by its own deeds, and what these launch fits.
         ensures moves { Moves self.old.master self.new.master }
+        ensures steps { OnOk result (StepsTo self.old.out self.new.out) }
         ensures status { IfOk result (λ reply. reply.status
             ≡ call_status self.old call.now (option_copied stream.entry)) }
         // What happens to the connection of the call.
         ensures fault { IfOk result (λ reply. reply.fault ≡ reply_fault self.old) }
         // Only a response with status 200 opens a stream.
         ensures opened { IfOk result (λ reply. OpensBy reply.opened reply.status) }
+        // On a new stream, SUBSCRIBED and a HEARTBEAT are sent first, and then the unacknowledged
+        // updates.
+        ensures opens { IfOk result (λ reply. OpensIf reply.opened self.old self.new) }
         // The response is the last entry of the log.
         ensures logged { IfOk result (λ reply.
             IsLogged (call_answered call.now reply.status) self.new.log) }
@@ -59,20 +65,39 @@ impl Live {
         call: &Call,
     ) -> Result<Reply, LiveFault>
         ensures moves { Moves self.old.master self.new.master }
+        ensures steps { OnOk result (StepsTo self.old.out self.new.out) }
         ensures status { IfOk result (λ reply. reply.status
             ≡ call_status self.old call.now (option_copied stream.entry)) }
         ensures fault { IfOk result (λ reply. reply.fault ≡ reply_fault self.old) }
         ensures opened { IfOk result (λ reply. OpensBy reply.opened reply.status) }
+        ensures opens { IfOk result (λ reply. OpensIf reply.opened self.old self.new) }
     {
         let fault = self.next_fault()?;
-        let reply = match fault {
-            Some(CallFault::Busy | CallFault::Reset) => {
-                Reply::plain(StatusCode::SERVICE_UNAVAILABLE)
-            }
-            Some(CallFault::Gone) => self.remove(stream, call)?,
-            _ => self.respond(stream, call)?,
-        };
+        let reply = self.respond_by(fault, stream, call)?;
         Ok(reply.with(fault))
+    }
+
+    /// Handles a call as its fault demands.
+    fn respond_by(
+        &mut self,
+        fault: Option<CallFault>,
+        stream: Option<&StreamId>,
+        call: &Call,
+    ) -> Result<Reply, LiveFault>
+        ensures moves { Moves self.old.master self.new.master }
+        ensures steps { OnOk result (StepsTo self.old.out self.new.out) }
+        ensures status { IfOk result (λ reply. reply.status ≡ status_by fault
+            (handled self.old.master call.now (option_copied stream.entry)).status) }
+        ensures opened { IfOk result (λ reply. OpensBy reply.opened reply.status) }
+        ensures opens { IfOk result (λ reply. OpensIf reply.opened self.old self.new) }
+    {
+        match fault {
+            Some(CallFault::Busy | CallFault::Reset) => {
+                Ok(Reply::plain(StatusCode::SERVICE_UNAVAILABLE))
+            }
+            Some(CallFault::Gone) => self.remove(stream, call),
+            _ => self.respond(stream, call),
+        }
     }
 
     /// Counts a call. Returns its fault: the 503 that standard input demands, or the planned one.
@@ -112,6 +137,7 @@ impl Live {
     pub fn reset(&mut self) -> Result<(), LiveFault>
         ensures same { self.new.master ≡ self.old.master }
         ensures counted { OnOk result (self.new ≡ call_counted self.old) }
+        ensures steps { OnOk result (StepsTo self.old.out self.new.out) }
     {
         self.next_fault()?;
         Ok(())
@@ -121,6 +147,7 @@ impl Live {
     /// 403.
     fn remove(&mut self, stream: Option<&StreamId>, call: &Call) -> Result<Reply, LiveFault>
         ensures moves { Moves self.old.master self.new.master }
+        ensures steps { OnOk result (StepsTo self.old.out self.new.out) }
         ensures status { IfOk result (λ reply. reply.status ≡ 403) }
         ensures opened { IfOk result (λ reply. reply.opened ≡ none) }
     {
@@ -137,7 +164,8 @@ impl Live {
         stream: Option<&StreamId>,
         framework: &Id,
     ) -> Result<Option<EndedStream>, LiveFault>
-        ensures { Moves self.old.master self.new.master }
+        ensures moves { Moves self.old.master self.new.master }
+        ensures steps { OnOk result (StepsTo self.old.out self.new.out) }
     {
         let framework_id = framework.copy(self.alloc)?;
         let call = Call::Teardown { framework_id };
@@ -148,9 +176,11 @@ impl Live {
     /// Handles a call, and sends what is due after it.
     fn respond(&mut self, stream: Option<&StreamId>, call: &Call) -> Result<Reply, LiveFault>
         ensures moves { Moves self.old.master self.new.master }
+        ensures steps { OnOk result (StepsTo self.old.out self.new.out) }
         ensures status { IfOk result (λ reply. reply.status
             ≡ (handled self.old.master call.now (option_copied stream.entry)).status) }
         ensures opened { IfOk result (λ reply. OpensBy reply.opened reply.status) }
+        ensures opens { IfOk result (λ reply. OpensIf reply.opened self.old self.new) }
     {
         let reply = self.reply_to(stream, call)?;
         self.send_due()?;
@@ -159,9 +189,11 @@ impl Live {
 
     fn reply_to(&mut self, stream: Option<&StreamId>, call: &Call) -> Result<Reply, LiveFault>
         ensures moves { Moves self.old.master self.new.master }
+        ensures steps { OnOk result (StepsTo self.old.out self.new.out) }
         ensures status { IfOk result (λ reply. reply.status
             ≡ (handled self.old.master call.now (option_copied stream.entry)).status) }
         ensures opened { IfOk result (λ reply. OpensBy reply.opened reply.status) }
+        ensures opens { IfOk result (λ reply. OpensIf reply.opened self.old self.new) }
     {
         match call {
             Call::Subscribe { .. } => self.subscribe(stream, call),
@@ -174,18 +206,26 @@ impl Live {
     fn handle(&mut self, stream: Option<&StreamId>, call: &Call) -> Result<Answer, LiveFault>
         requires { tasks_of call.now ≡ [] }
         ensures moves { Moves self.old.master self.new.master }
+        ensures kept { self.new.out ≡ self.old.out }
         ensures status { IfOk result (λ answer. answer.status
             ≡ (handled self.old.master call.now (option_copied stream.entry)).status) }
+        ensures answered { IfOk result (λ answer. IsAnswer
+            (handled self.old.master call.now (option_copied stream.entry)) answer.status
+            answer.events.items self.new.master) }
+        ensures time { self.new.time ≡ self.old.time }
     {
         Ok(self.master.handle(call, stream)?)
     }
 
     fn subscribe(&mut self, stream: Option<&StreamId>, call: &Call) -> Result<Reply, LiveFault>
-        requires { tasks_of call.now ≡ [] }
+        requires none { tasks_of call.now ≡ [] }
+        requires subscribe { is_subscribe call.now ≡ true }
         ensures moves { Moves self.old.master self.new.master }
+        ensures steps { OnOk result (StepsTo self.old.out self.new.out) }
         ensures status { IfOk result (λ reply. reply.status
             ≡ (handled self.old.master call.now (option_copied stream.entry)).status) }
         ensures opened { IfOk result (λ reply. OpensBy reply.opened reply.status) }
+        ensures opens { IfOk result (λ reply. OpensIf reply.opened self.old self.new) }
     {
         let old = self.current();
         let answer = self.handle(stream, call)?;
@@ -207,7 +247,11 @@ impl Live {
         old: Option<StreamId>,
         events: &[Event],
     ) -> Result<Option<EndedStream>, LiveFault>
-        ensures { Moves self.old.master self.new.master }
+        requires { is_some self.old.master.stream ≡ true }
+        ensures moves { Moves self.old.master self.new.master }
+        ensures begins { OnOk result (BeginsWith (replacing self.old.time old
+            ++ beginning self.old.time events.now (unacknowledged self.old.master)) self.old.out
+            self.new.out) }
     {
         let ended = self.fail_over(old)?;
         self.send_all(events)?;
@@ -220,7 +264,8 @@ impl Live {
 
     /// Ends the stream that a new one replaces, if there was one.
     fn fail_over(&mut self, old: Option<StreamId>) -> Result<Option<EndedStream>, LiveFault>
-        ensures { self.new.master ≡ self.old.master }
+        ensures same { self.new.master ≡ self.old.master }
+        ensures ends { OnOk result (Makes (replacing self.old.time old) self.old self.new) }
     {
         let Some(id) = old else {
             return Ok(None);
@@ -232,7 +277,8 @@ impl Live {
 
     /// Sends events of the master.
     fn send_all(&mut self, sent: &[Event]) -> Result<(), LiveFault>
-        ensures { self.new.master ≡ self.old.master }
+        ensures same { self.new.master ≡ self.old.master }
+        ensures sends { OnOk result (Makes (sending self.old.time sent.now) self.old self.new) }
     {
         for event in sent {
             self.push(event)?;
@@ -244,9 +290,11 @@ impl Live {
     fn carry_out(&mut self, stream: Option<&StreamId>, call: &Call) -> Result<Reply, LiveFault>
         requires { tasks_of call.now ≡ [] }
         ensures moves { Moves self.old.master self.new.master }
+        ensures steps { OnOk result (StepsTo self.old.out self.new.out) }
         ensures status { IfOk result (λ reply. reply.status
             ≡ (handled self.old.master call.now (option_copied stream.entry)).status) }
         ensures opened { IfOk result (λ reply. OpensBy reply.opened reply.status) }
+        ensures plain { IfOk result (λ reply. reply.opened ≡ none) }
     {
         let old = self.current();
         let answer = self.handle(stream, call)?;
@@ -270,7 +318,8 @@ impl Live {
         old: Option<StreamId>,
         events: &[Event],
     ) -> Result<Option<EndedStream>, LiveFault>
-        ensures { self.new.master ≡ self.old.master }
+        ensures same { self.new.master ≡ self.old.master }
+        ensures steps { OnOk result (StepsTo self.old.out self.new.out) }
     {
         match (call, old) {
             (Call::Teardown { .. }, Some(id)) => Ok(Some(self.end_stream(id)?)),
@@ -284,7 +333,8 @@ impl Live {
 
     /// Changes the cluster as a call demands that the master carried out, and sends what follows.
     fn follow(&mut self, call: &Call) -> Result<(), LiveFault>
-        ensures { self.new.master ≡ self.old.master }
+        ensures same { self.new.master ≡ self.old.master }
+        ensures steps { OnOk result (StepsTo self.old.out self.new.out) }
     {
         match call {
             Call::Decline { body, .. } => {
@@ -313,7 +363,8 @@ impl Live {
     }
 
     fn acknowledge(&mut self, body: &Acknowledge) -> Result<(), LiveFault>
-        ensures { self.new.master ≡ self.old.master }
+        ensures same { self.new.master ≡ self.old.master }
+        ensures kept { self.new.out ≡ self.old.out }
     {
         let key = key_in(self.alloc, body)?;
         self.sent.acknowledge(&key);
@@ -324,13 +375,13 @@ impl Live {
     /// Kills a task of the cluster. A task that nobody knows, or that has ended, is reported as
     /// lost; one that only events from outside reported is left to them.
     fn kill(&mut self, body: &Kill) -> Result<(), LiveFault>
-        ensures { self.new.master ≡ self.old.master }
+        ensures same { self.new.master ≡ self.old.master }
+        ensures steps { OnOk result (StepsTo self.old.out self.new.out) }
     {
         if self.cluster.kill(&body.task_id) || self.is_reported_alive(&body.task_id) {
             return Ok(());
         }
-        let status = task_unknown(self.alloc, &body.task_id, body.agent_id.as_ref())?;
-        self.send_status(&status)
+        self.send_unknown(&body.task_id, body.agent_id.as_ref())
     }
 
     /// Returns whether the last status of the task is not that of an ended task.
@@ -343,20 +394,39 @@ impl Live {
 
     /// Sends an UPDATE of each of these tasks that has no status.
     fn reconcile_unknown(&mut self, tasks: &[TaskRef]) -> Result<(), LiveFault>
-        ensures { self.new.master ≡ self.old.master }
+        ensures same { self.new.master ≡ self.old.master }
+        ensures steps { OnOk result (StepsTo self.old.out self.new.out) }
     {
         for task in tasks {
-            if self.master.last_status(&task.task_id).is_none() {
-                let status = task_unknown(self.alloc, &task.task_id, task.agent_id.as_ref())?;
-                self.send_status(&status)?;
-            }
+            self.reconcile_task(task)?;
         }
         Ok(())
     }
 
+    /// Sends an UPDATE of this task if it has no status.
+    fn reconcile_task(&mut self, task: &TaskRef) -> Result<(), LiveFault>
+        ensures same { self.new.master ≡ self.old.master }
+        ensures steps { OnOk result (StepsTo self.old.out self.new.out) }
+    {
+        if self.master.last_status(&task.task_id).is_some() {
+            return Ok(());
+        }
+        self.send_unknown(&task.task_id, task.agent_id.as_ref())
+    }
+
+    /// Reports a task that nobody knows as lost.
+    fn send_unknown(&mut self, task: &Id, agent: Option<&Id>) -> Result<(), LiveFault>
+        ensures same { self.new.master ≡ self.old.master }
+        ensures steps { OnOk result (StepsTo self.old.out self.new.out) }
+    {
+        let status = task_unknown(self.alloc, task, agent)?;
+        self.send_status(&status)
+    }
+
     /// Sends an UPDATE that the master does not record, since it launched no such task.
     pub(super) fn send_status(&mut self, status: &TaskStatus) -> Result<(), LiveFault>
-        ensures { self.new.master ≡ self.old.master }
+        ensures same { self.new.master ≡ self.old.master }
+        ensures steps { OnOk result (StepsTo self.old.out self.new.out) }
     {
         let event = events::update(self.alloc, status)?;
         self.push(&event)
@@ -364,7 +434,8 @@ impl Live {
 
     /// Sends the FAILURE of an executor that was shut down.
     fn shut_down(&mut self, body: &Shutdown) -> Result<(), LiveFault>
-        ensures { self.new.master ≡ self.old.master }
+        ensures same { self.new.master ≡ self.old.master }
+        ensures steps { OnOk result (StepsTo self.old.out self.new.out) }
     {
         let failure = Failure {
             agent_id: Some(body.agent_id.copy(self.alloc)?),

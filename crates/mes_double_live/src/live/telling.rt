@@ -2,6 +2,7 @@
 ghost use Rattle.std.specs.Prelude.{◌≡◌, OnOk};
 ghost use Rattle.mes_double_live.specs.Lives.{with_stock};
 ghost use Rattle.mes_double_live.specs.Moving.{Moves};
+ghost use Rattle.mes_double_live.specs.BodySteps.{StepsTo};
 
 use super::Live;
 use crate::fault::LiveFault;
@@ -23,7 +24,8 @@ impl Live {
     /// the next stream.
     pub fn told(&mut self, event: Event) -> Result<(), LiveFault>
         // The test master changes only by its own deeds, and what these launch fits.
-        ensures { Moves self.old.master self.new.master }
+        ensures moves { Moves self.old.master self.new.master }
+        ensures steps { OnOk result (StepsTo self.old.out self.new.out) }
     {
         match event {
             Event::Subscribed(_) => Ok(()),
@@ -37,7 +39,8 @@ impl Live {
 
     /// Has one more call answered with 503 for a BUSY, or takes another event.
     fn take_other(&mut self, event: Event) -> Result<(), LiveFault>
-        ensures { Moves self.old.master self.new.master }
+        ensures moves { Moves self.old.master self.new.master }
+        ensures steps { OnOk result (StepsTo self.old.out self.new.out) }
     {
         if is_busy(&event) {
             self.add_busy();
@@ -49,7 +52,8 @@ impl Live {
 
     /// Has one more call answered with 503.
     fn add_busy(&mut self)
-        ensures { self.new.master ≡ self.old.master }
+        ensures same { self.new.master ≡ self.old.master }
+        ensures kept { self.new.out ≡ self.old.out }
     {
         self.busy = self.busy.saturating_add(1);
     }
@@ -65,7 +69,8 @@ impl Live {
     /// Sends an event on the current stream; or stores it, if there is no stream or earlier events
     /// wait.
     fn take(&mut self, event: Event) -> Result<(), LiveFault>
-        ensures { Moves self.old.master self.new.master }
+        ensures moves { Moves self.old.master self.new.master }
+        ensures steps { OnOk result (StepsTo self.old.out self.new.out) }
     {
         if !self.has_stream() || !self.waiting.is_empty() || !self.out.takes_more(usize::MAX) {
             return self.store(event);
@@ -87,7 +92,8 @@ impl Live {
     /// Sends events that waited for a stream, until more than `most` bytes are pending. So a client
     /// that reads its stream receives any number of them in little memory.
     pub(super) fn deliver_waiting(&mut self, most: usize) -> Result<(), LiveFault>
-        ensures { Moves self.old.master self.new.master }
+        ensures moves { Moves self.old.master self.new.master }
+        ensures steps { OnOk result (StepsTo self.old.out self.new.out) }
     {
         for _ in 0..self.waiting.len() {
             if !self.out.takes_more(most) {
@@ -100,7 +106,8 @@ impl Live {
 
     /// Sends the first event that waited for a stream, if there is one.
     fn deliver_first(&mut self) -> Result<(), LiveFault>
-        ensures { Moves self.old.master self.new.master }
+        ensures moves { Moves self.old.master self.new.master }
+        ensures steps { OnOk result (StepsTo self.old.out self.new.out) }
     {
         match self.take_first() {
             Some(event) => self.deliver(&event),
@@ -116,7 +123,8 @@ impl Live {
 
     /// Sends an event from outside on the current stream.
     fn deliver(&mut self, event: &Event) -> Result<(), LiveFault>
-        ensures { Moves self.old.master self.new.master }
+        ensures moves { Moves self.old.master self.new.master }
+        ensures steps { OnOk result (StepsTo self.old.out self.new.out) }
     {
         if self.admit(event)? {
             self.send(event)
@@ -127,7 +135,8 @@ impl Live {
 
     /// Makes an event from outside known to the master. Returns false if the master refuses it.
     fn admit(&mut self, event: &Event) -> Result<bool, NoMemory>
-        ensures { Moves self.old.master self.new.master }
+        ensures moves { Moves self.old.master self.new.master }
+        ensures kept { self.new.out ≡ self.old.out }
     {
         match event {
             Event::Rescind(body) => self.note_rescind(&body.offer_id),
@@ -138,7 +147,8 @@ impl Live {
 
     /// Sends an event, or does what its name demands of the stream.
     fn send(&mut self, event: &Event) -> Result<(), LiveFault>
-        ensures { self.new.master ≡ self.old.master }
+        ensures same { self.new.master ≡ self.old.master }
+        ensures steps { OnOk result (StepsTo self.old.out self.new.out) }
     {
         if self.obeys(event) {
             return Ok(());
@@ -148,7 +158,8 @@ impl Live {
 
     /// Does what the name of an event demands of the stream. Returns false if it demands nothing.
     fn obeys(&mut self, event: &Event) -> bool
-        ensures { self.new.master ≡ self.old.master }
+        ensures same { self.new.master ≡ self.old.master }
+        ensures steps { StepsTo self.old.out self.new.out }
     {
         match event {
             Event::Other(name) => self.out.obey(name.as_str()),
@@ -158,7 +169,8 @@ impl Live {
 
     /// Takes an offer back. Returns false if the master refuses.
     fn note_rescind(&mut self, id: &Id) -> Result<bool, NoMemory>
-        ensures { Moves self.old.master self.new.master }
+        ensures moves { Moves self.old.master self.new.master }
+        ensures kept { self.new.out ≡ self.old.out }
     {
         match self.master.rescind(id.value.as_str()) {
             Ok(_) => {
@@ -172,7 +184,8 @@ impl Live {
 
     /// Records a status from outside. Returns false if the master refuses it.
     fn note_update(&mut self, status: &TaskStatus) -> Result<bool, NoMemory>
-        ensures { Moves self.old.master self.new.master }
+        ensures moves { Moves self.old.master self.new.master }
+        ensures kept { self.new.out ≡ self.old.out }
     {
         if !self.record(status)? {
             return Ok(false);
@@ -183,7 +196,8 @@ impl Live {
 
     /// Records a status in the master. Returns false if the master refuses it.
     fn record(&mut self, status: &TaskStatus) -> Result<bool, NoMemory>
-        ensures { Moves self.old.master self.new.master }
+        ensures moves { Moves self.old.master self.new.master }
+        ensures kept { self.new.out ≡ self.old.out }
     {
         match self.master.note_update(status) {
             Ok(()) => Ok(true),
@@ -194,7 +208,8 @@ impl Live {
 
     /// Notes a status from outside that the master recorded.
     fn note_outside(&mut self, status: &TaskStatus) -> Result<(), NoMemory>
-        ensures { self.new.master ≡ self.old.master }
+        ensures same { self.new.master ≡ self.old.master }
+        ensures kept { self.new.out ≡ self.old.out }
     {
         self.note_sent(status)?;
         self.cluster

@@ -1,6 +1,7 @@
+use Rattle.std.proofs.Common.{◌≡◌}
 use Rattle.mes_double_live.specs.Moving.{Moves}
 use Rattle.mes_double_live.proofs.live.Live.make_offers.Given as goal
 
--- the test master moved by deeds
+-- the test master moved by deeds, and the body is the same
 abbrev pub invariant-loop-index : goal.invariant-loop-index
-invariant-loop-index l = Moves l.fn.self.master l.self.master
+invariant-loop-index l = record { moves : Moves l.fn.self.master l.self.master; kept : l.self.out ≡ l.fn.self.out }

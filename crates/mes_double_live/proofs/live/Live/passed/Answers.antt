@@ -1,9 +1,19 @@
 use Rattle.std.proofs.Common.{ap, ◌∙◌}
 use Rattle.mes_double_live.specs.Lives.{LiveState}
 use Rattle.mes_double_live.proofs.MoveLemmas.{moves-from, moves-then}
+use Rattle.mes_double_live.proofs.StepLemmas.{steps-same, steps-then, steps-from, steps-last, same-out, released-steps}
 use Rattle.mes_double_live.proofs.live.Live.passed.Goals as goal
 
-pub returns : goal.returns
-returns c =
-    moves-then _ _ _ (moves-from _ _ _ (c.release.ensures ∙ ap (λ (live : LiveState). live.master) c.note_time.ensures) c.deliver_waiting.ensures)
-    (moves-from _ _ _ (c.resend_due.ensures ∙ c.beat_due.ensures) c.send_due.ensures)
+pub returns-clause-moves : goal.returns-clause-moves
+returns-clause-moves c =
+    moves-then _ _ _ (moves-from _ _ _ (c.release.ensures.same ∙ ap (λ (live : LiveState). live.master) c.note_time.ensures) c.deliver_waiting.ensures.moves)
+    (moves-from _ _ _ (c.resend_due.ensures.same ∙ c.beat_due.ensures.same) c.send_due.ensures.moves)
+
+pub returns-then-not-has_stream-clause-steps : goal.returns-then-not-has_stream-clause-steps
+returns-then-not-has_stream-clause-steps c = steps-same _ _ (same-out _ _ c.note_time.ensures)
+
+pub returns-clause-steps : goal.returns-clause-steps
+returns-clause-steps c =
+    let released = steps-from _ _ _ (same-out _ _ c.note_time.ensures) (released-steps _ _ _ c.in_ok-release.ensures.released) in
+    let due = steps-then _ _ _ c.in_ok-beat_due.ensures.steps c.in_ok-resend_due.ensures.steps in
+    steps-last _ _ _ _ (steps-then _ _ _ released (steps-then _ _ _ c.in_ok-deliver_waiting.ensures.steps due)) c.send_due.ensures.steps

@@ -6,8 +6,8 @@ pub returns-in_ok-respond-in-Whole-clause-next : goal.returns-in_ok-respond-in-W
 returns-in_ok-respond-in-Whole-clause-next g c = (
   c.in-Whole.request,
   c.in-Whole.persistence,
-  c.requires,
-  taken_next _ _ _ _ _ _ c.next.ensures.takes c.in-Whole.is c.respond.ensures.requests,
+  c.requires.serving,
+  (c.requires.call, taken_next _ _ _ _ _ _ c.next.ensures.takes c.in-Whole.is c.respond.ensures.requests),
   c.in_ok-answered-in-Whole.ensures.by,
   c.in_ok-respond-in-Whole.ensures.out,
   c.in_ok-respond-in-Whole.ensures.phase,

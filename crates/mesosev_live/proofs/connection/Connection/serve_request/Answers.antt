@@ -1,7 +1,11 @@
-use Rattle.std.proofs.Common.{List, ℕ, IfOk, subst}
+use Rattle.std.proofs.Common.{List, ℕ, IfOk, subst, sym}
+use Rattle.mes_double_http.specs.Pages.{BeginsNoPage}
 use Rattle.mesosev_live.specs.Serving.{ServesNext}
 use Rattle.mesosev_live.proofs.ServedLemmas.{page_refused, page_taken, page_unread, refused_next, shown_next}
 use Rattle.mesosev_live.proofs.connection.Connection.serve_request.Goals as goal
+
+pub serve_call-requires-clause-call : goal.serve_call-requires-clause-call
+serve_call-requires-clause-call g c = subst BeginsNoPage (sym c.in-Nothing.ensures.takes.0) c.in-Nothing.ensures.takes.1
 
 pub returns-in-Nothing-clause-next : goal.returns-in-Nothing-clause-next
 returns-in-Nothing-clause-next g c =
