@@ -1,9 +1,9 @@
 -- How the steps with which a stream begins follow one another.
 use Rattle.std.proofs.Common.{◌≡◌, ◌∙◌, ap, subst, sym, refl, ℕ, ◌+◌, ◌<◌, ◌≤◌, Bool, true, false, if◌then◌else◌, List, [], ◌∷◌, ◌++◌, take, length, get_or, Option, None, Some, Result, Ok, Err, IfOk, arith}
-use Rattle.std.proofs.lemmas.Grind.{flat_map-append}
 use Rattle.std.proofs.lemmas.List.{append_assoc, map-append, take_all, take_more}
 use Rattle.std.proofs.lemmas.Option.{slice_get-map, slice_get_within, get_or_from_slice_get}
-use Rattle.std.specs.List.{flat_map, slice_get}
+use Rattle.std.specs.List.{AllByRecursion, slice_get}
+use Rattle.mes_frame.proofs.Chunks.{all_append}
 use Rattle.std.specs.Prelude.{codes, is_some, option_map, not, ◌||◌}
 use Rattle.mes_model.specs.OwedKey.{OwedKey}
 use Rattle.mes_model.specs.TaskStatus.{TaskStatus}
@@ -15,12 +15,12 @@ use Rattle.mes_session_state.specs.Calls.{framework_of}
 use Rattle.mes_double_master.specs.declared.refusal.MasterRefusal.TheVariants.{NoStream}
 use Rattle.mes_msg.specs.Event.TheVariants.{Error}
 use Rattle.mes_double_live.specs.Bodies.{BodyState, cleared}
-use Rattle.mes_double_live.specs.Lives.{LiveState, Pushes, call_counted}
+use Rattle.mes_double_live.specs.Lives.{LiveState, Pushes}
 use Rattle.mes_double_live.specs.Opening.{Makes, BeginsWith, OpensIf, Resends, beginning, opening, replacing, sending, unacknowledged}
-use Rattle.mes_double_live.specs.BodySteps.{BodyStep, Leads, StepsTo, events_by}
+use Rattle.mes_double_live.specs.BodySteps.{BodyStep, Leads, StepsTo, IsOfCall, IsSending}
 use Rattle.mes_double_live.specs.BodySteps.BodyStep.{sends, beats, clears}
 use Rattle.mes_double_live.specs.declared.reply.Reply.{Reply}
-use Rattle.mes_double_live.proofs.StepLemmas.{Quiet, leads-then}
+use Rattle.mes_double_live.proofs.StepLemmas.{all-wider, leads-then, sending-of-call}
 
 -- ---- steps
 
@@ -30,8 +30,13 @@ makes-none old new e = record { leads = ap (λ (x : LiveState). x.out) e; time =
 pub makes-then : (s t : List BodyStep) (a b c : LiveState) → Makes s a b → Makes t b c → Makes (s ++ t) a c
 makes-then s t a b c first next = record { leads = leads-then a.out b.out c.out s t first.leads next.leads; time = next.time ∙ first.time }
 
-pub makes-steps : (s : List BodyStep) (a b : LiveState) → Makes s a b → StepsTo a.out b.out
-makes-steps s a b makes = record { steps = s; leads = makes.leads }
+sending-allowed : (P : BodyStep → Type 0) → ((now : ℕ) (event : Event) → P (sends now event)) → (now : ℕ) (events : List Event) → AllByRecursion P (sending now events)
+sending-allowed P may now [] = tt
+sending-allowed P may now (event ∷ events) = (may now event, sending-allowed P may now events)
+
+-- events are sent, in order
+pub sent-steps : (now : ℕ) (events : List Event) (a b : LiveState) → Makes (sending now events) a b → StepsTo IsSending a.out b.out
+sent-steps now events a b makes = record { steps = sending now events; allowed = sending-allowed IsSending (λ n e. tt) now events; leads = makes.leads }
 
 -- an event is sent by a state with the same body and time
 pub pushed-makes : (event : Event) (old mid new : LiveState) → mid.out ≡ old.out → mid.time ≡ old.time → Pushes event mid new → Makes (sends old.time event ∷ []) old new
@@ -113,8 +118,12 @@ replaces stream id message a b c is says pushes ends time =
     subst (λ (m : List ℕ). Makes (sends a.time (Error (record { message = m })) ∷ []) a b) says (pushed-makes _ a a b refl refl pushes) in
     subst (λ (s : Option (List ℕ)). Makes (replacing a.time s) a c) (sym is) (makes-then _ _ a b c sent (cleared-makes b c ends time))
 
+-- there was no stream before
+pub clears-first : (stream : Option (List ℕ)) (a b : LiveState) → stream ≡ None → b.out ≡ cleared a.out → b.time ≡ a.time → Makes (replacing a.time stream) a b
+clears-first stream a b is clear time = subst (λ (s : Option (List ℕ)). Makes (replacing a.time s) a b) (sym is) (cleared-makes a b clear time)
+
 pub stream-begins : (stream : Option (List ℕ)) (events : List Event) (s0 s1 s2 s3 s4 : LiveState) (o : BodyState) → Makes (replacing s0.time stream) s0 s1
-    → Makes (sending s1.time events) s1 s2 → Makes (beats ∷ []) s2 s3 → Makes (sending s3.time (unacknowledged s3.master)) s3 s4 → s3.master ≡ s0.master → StepsTo s4.out o
+    → Makes (sending s1.time events) s1 s2 → Makes (beats ∷ []) s2 s3 → Makes (sending s3.time (unacknowledged s3.master)) s3 s4 → s3.master ≡ s0.master → StepsTo IsSending s4.out o
     → BeginsWith (replacing s0.time stream ++ beginning s0.time events (unacknowledged s0.master)) s0.out o
 stream-begins stream events s0 s1 s2 s3 s4 o ended sent beat again same after =
     let first : Makes (sending s0.time events) s1 s2 = subst (λ (now : ℕ). Makes (sending now events) s1 s2) ended.time sent in
@@ -123,21 +132,32 @@ stream-begins stream events s0 s1 s2 s3 s4 o ended sent beat again same after =
     subst (λ (m : MasterState). Makes (sending s0.time (unacknowledged m)) s3 s4) same (subst (λ (now : ℕ). Makes (sending now (unacknowledged s3.master)) s3 s4) time again) in
     let begins : Makes (beginning s0.time events (unacknowledged s0.master)) s1 s4 = makes-then _ _ s1 s2 s4 first (makes-then _ _ s2 s3 s4 beat last) in
     let all = makes-then _ _ s0 s1 s4 ended begins in
-    record { rest = after.steps; leads = leads-then s0.out s4.out o _ after.steps all.leads after.leads }
+    record { rest = after.steps; sending = after.allowed; leads = leads-then s0.out s4.out o _ after.steps all.leads after.leads }
 
-pub begins-with : (steps : List BodyStep) (a b c : LiveState) → Makes steps a b → StepsTo b.out c.out → BeginsWith steps a.out c.out
-begins-with steps a b c makes after = record { rest = after.steps; leads = leads-then a.out b.out c.out steps after.steps makes.leads after.leads }
-
-pub begins-then : (steps : List BodyStep) (a b c : BodyState) → BeginsWith steps a b → StepsTo b c → BeginsWith steps a c
+pub begins-then : (steps : List BodyStep) (a b c : BodyState) → BeginsWith steps a b → StepsTo IsSending b c → BeginsWith steps a c
 begins-then steps a b c begins after = record {
   rest = begins.rest ++ after.steps;
+  sending = all_append IsSending begins.rest after.steps begins.sending after.allowed;
   leads =
       subst (λ (all : List BodyStep). Leads a all c) (append_assoc steps begins.rest after.steps)
       (leads-then a b c (steps ++ begins.rest) after.steps begins.leads after.leads);
 }
 
-pub begins-steps : (steps : List BodyStep) (a b : BodyState) → BeginsWith steps a b → StepsTo a b
-begins-steps steps a b begins = record { steps = steps ++ begins.rest; leads = begins.leads }
+-- the steps of a new stream are those of a call
+pub begins-steps : (steps : List BodyStep) (a b : BodyState) → AllByRecursion IsOfCall steps → BeginsWith steps a b → StepsTo IsOfCall a b
+begins-steps steps a b allowed begins =
+    let rest = all-wider sending-of-call begins.rest begins.sending in
+    record { steps = steps ++ begins.rest; allowed = all_append IsOfCall steps begins.rest allowed rest; leads = begins.leads }
+
+replacing-allowed : (stream : Option (List ℕ)) (now : ℕ) → AllByRecursion IsOfCall (replacing now stream)
+replacing-allowed None now = (tt, tt)
+replacing-allowed (Some id) now = (tt, (tt, tt))
+
+pub beginning-allowed : (stream : Option (List ℕ)) (now from : ℕ) (events updates : List Event) → AllByRecursion IsOfCall (replacing now stream ++ beginning from events updates)
+beginning-allowed stream now from events updates =
+    let sent = sending-allowed IsOfCall (λ n e. tt) from events in
+    all_append IsOfCall (replacing now stream) (beginning from events updates) (replacing-allowed stream now)
+    (all_append IsOfCall (sending from events) (beats ∷ sending from updates) sent (tt, sending-allowed IsOfCall (λ n e. tt) from updates))
 
 -- ---- SUBSCRIBE
 
@@ -181,42 +201,18 @@ opens-by old mid new stream events body time is by begins =
 
 -- ---- by the id of the stream that was opened
 
-pub opens-new : (opened : Option (List ℕ)) (old new : LiveState) → BeginsWith (opening old) old.out new.out → OpensIf opened old new
+pub opens-new : (opened : Option (List ℕ)) (old : LiveState) (new : BodyState) → BeginsWith (opening old) old.out new → OpensIf opened old new
 opens-new None old new begins = tt
-opens-new (Some id) old new begins = record { before = []; none = refl; begins = begins }
+opens-new (Some id) old new begins = begins
 
-pub opens-none : (opened : Option (List ℕ)) (old new : LiveState) → opened ≡ None → OpensIf opened old new
+pub opens-none : (opened : Option (List ℕ)) (old : LiveState) (new : BodyState) → opened ≡ None → OpensIf opened old new
 opens-none opened old new e = subst (λ (x : Option (List ℕ)). OpensIf x old new) (sym e) tt
 
-pub opens-then : (opened : Option (List ℕ)) (old mid new : LiveState) → OpensIf opened old mid → StepsTo mid.out new.out → OpensIf opened old new
+pub opens-then : (opened : Option (List ℕ)) (old : LiveState) (mid new : BodyState) → OpensIf opened old mid → StepsTo IsSending mid new → OpensIf opened old new
 opens-then None old mid new opens after = tt
-opens-then (Some id) old mid new opens after = record { before = opens.before; none = opens.none; begins = begins-then _ _ _ _ opens.begins after }
+opens-then (Some id) old mid new opens after = begins-then (opening old) old.out mid new opens after
 
 -- a call that opens no stream
-pub if-plain : {E : Type 0} (result : Result Reply E) (old new : LiveState) → IfOk result (λ reply. reply.opened ≡ None) → IfOk result (λ reply. OpensIf reply.opened old new)
+pub if-plain : {E : Type 0} (result : Result Reply E) (old : LiveState) (new : BodyState) → IfOk result (λ reply. reply.opened ≡ None) → IfOk result (λ reply. OpensIf reply.opened old new)
 if-plain (Ok reply) old new is = opens-none reply.opened old new is
 if-plain (Err why) old new is = tt
-
--- the log and the counts of calls don't matter
-pub opens-same : (opened : Option (List ℕ)) (old mid new : LiveState) → OpensIf opened old mid → new.out ≡ mid.out → OpensIf opened old new
-opens-same opened old mid new opens e = opens-then opened old mid new opens (record { steps = []; leads = e })
-
-regrouped : (a b c d e : List BodyStep) → c ≡ d → a ++ ((b ++ c) ++ e) ≡ ((a ++ b) ++ d) ++ e
-regrouped a b c d e same =
-    sym (append_assoc a (b ++ c) e) ∙ ap (λ (l : List BodyStep). l ++ e) (sym (append_assoc a b c)) ∙ ap (λ (l : List BodyStep). ((a ++ b) ++ l) ++ e) same
-
--- a call was counted before
-pub opens-counted : (opened : Option (List ℕ)) (old mid new : LiveState) → mid ≡ call_counted old → Quiet old.out mid.out → OpensIf opened mid new → OpensIf opened old new
-opens-counted None old mid new e quiet opens = tt
-opens-counted (Some id) old mid new e quiet opens =
-    let same : opening mid ≡ opening old = ap opening e in
-    record {
-      before = quiet.steps ++ opens.before;
-      none = flat_map-append events_by quiet.steps opens.before ∙ ap (λ (l : List Event). l ++ flat_map events_by opens.before) quiet.none ∙ opens.none;
-      begins = record {
-        rest = opens.begins.rest;
-        leads =
-            subst (λ (steps : List BodyStep). Leads old.out steps new.out) (regrouped quiet.steps opens.before (opening mid) (opening old) opens.begins.rest same)
-            (leads-then old.out mid.out new.out quiet.steps ((opens.before ++ opening mid) ++ opens.begins.rest) quiet.leads opens.begins.leads);
-      };
-    }

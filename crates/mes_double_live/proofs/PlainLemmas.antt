@@ -11,7 +11,7 @@ use Rattle.mes_msg.specs.Event.TheVariants.{Heartbeat}
 use Rattle.mes_msg.specs.Events as kinds
 use Rattle.mes_stream.specs.Sending.{records_of}
 use Rattle.mes_double_live.specs.Bodies.{BodyState, cleared, released_by, appended_by, Appends, next_fault, next_number, fault_by, counted, SendsIf, SendsBy, Sends, BeatsIf, Beats, last_chunk}
-use Rattle.mes_double_live.specs.BodySteps.{BodyStep, StepsBody, Leads, record_of, IsFaultless, IsFresh, IsPlain, events_by, bytes_by, sent_records, gone}
+use Rattle.mes_double_live.specs.BodySteps.{BodyStep, StepsBody, Leads, record_of, IsFaultless, IsFresh, IsPlain, events_by, bytes_by, sent_records, bytes_written}
 use Rattle.mes_double_live.specs.BodySteps.BodyStep.{sends, beats, obeys, releases, goes, clears, notes, takes}
 use Rattle.mes_double_live.specs.declared.stream_body.Delivery.{Delivery}
 use Rattle.mes_double_live.specs.declared.stream_body.Delivery.TheVariants.{Flowing}
@@ -98,28 +98,35 @@ sent-then a b c x y v w first next = record {
       ∙ sym (append_assoc v w c.pending);
 }
 
-steps-plain : (steps : List BodyStep) (old new : BodyState) → AllByRecursion IsPlain steps → IsQuiet old → Leads old steps new → Sent old new (sent_records steps) (gone steps)
+steps-plain : (steps : List BodyStep) (old new : BodyState) → AllByRecursion IsPlain steps → IsQuiet old → Leads old steps new → Sent old new (sent_records steps) (bytes_written steps)
 steps-plain [] old new plain quiet leads = sent-nothing old new (ap (λ (x : BodyState). x.pending) leads) (subst IsQuiet (sym leads) quiet)
 steps-plain (step ∷ steps) old new plain quiet (next, is, rest) =
     let first = step-plain step old next plain.0 quiet is in
     let all = sent-then old next new _ _ _ _ first (steps-plain steps next new plain.1 first.quiet rest) in
     let joined = flat_map-append (λ (event : Event). record_of event) (events_by step) (flat_map events_by steps) in
-    subst (λ (content : List ℕ). Sent old new content (gone (step ∷ steps))) (sym joined) all
+    subst (λ (content : List ℕ). Sent old new content (bytes_written (step ∷ steps))) (sym joined) all
 
 pub stream-plain : (old new : BodyState) (steps : List BodyStep) → IsFresh old → old.most < 2 ^ 64 → IsFaultless old.plan → AllByRecursion IsPlain steps
-    → Leads old steps new → IsChunked (gone steps ++ new.pending ++ last_chunk) (sent_records steps)
+    → Leads old steps new → IsChunked (bytes_written steps ++ new.pending ++ last_chunk) (sent_records steps)
 stream-plain old new steps fresh small none plain leads =
-    let quiet : IsQuiet old = record { most = small; plan = none; held = fresh.held; until = fresh.until; fault = fresh.fault; delivery = fresh.delivery } in
+    let quiet : IsQuiet old = record {
+      most = small;
+      plan = none;
+      held = sym (ap (λ (x : BodyState). x.held) fresh);
+      until = sym (ap (λ (x : BodyState). x.until) fresh);
+      fault = sym (ap (λ (x : BodyState). x.fault) fresh);
+      delivery = sym (ap (λ (x : BodyState). x.delivery) fresh);
+    } in
     let sent = steps-plain steps old new plain quiet leads in
-    let all : sent.bytes ≡ gone steps ++ new.pending = ap (λ (l : List ℕ). l ++ sent.bytes) (sym fresh.pending) ∙ sent.is in
+    let all : sent.bytes ≡ bytes_written steps ++ new.pending = ap (λ (l : List ℕ). l ++ sent.bytes) (ap (λ (x : BodyState). x.pending) fresh) ∙ sent.is in
     subst (λ (l : List ℕ). IsChunked (l ++ last_chunk) (sent_records steps)) all (chunks-end sent.bytes (sent_records steps) sent.are)
 
 -- a stream begins with an empty body, whatever was before
 pub next-plain : (old new : BodyState) (before steps : List BodyStep) → old.most < 2 ^ 64 → IsFaultless old.plan → AllByRecursion IsPlain steps
-    → Leads old (before ++ clears ∷ steps) new → IsChunked (gone steps ++ new.pending ++ last_chunk) (sent_records steps)
+    → Leads old (before ++ clears ∷ steps) new → IsChunked (bytes_written steps ++ new.pending ++ last_chunk) (sent_records steps)
 next-plain old new before steps small none plain leads =
     let split = leads-split before (clears ∷ steps) old new leads in
     let less : split.mid.most < 2 ^ 64 = subst (λ (n : ℕ). n < 2 ^ 64) (sym split.keeps.most) small in
     let faultless : IsFaultless split.mid.plan = subst IsFaultless (sym split.keeps.plan) none in
     let from : Leads (cleared split.mid) steps new = subst (λ (x : BodyState). Leads x steps new) split.leads.1 split.leads.2 in
-    stream-plain (cleared split.mid) new steps (record { pending = refl; held = refl; until = refl; fault = refl; delivery = refl }) less faultless plain from
+    stream-plain (cleared split.mid) new steps refl less faultless plain from

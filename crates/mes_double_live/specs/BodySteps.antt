@@ -1,7 +1,6 @@
--- How the body of the current stream changes: by steps, of which each sends an event or a HEARTBEAT,
--- writes bytes, or ends the stream. Times are in milliseconds.
+-- How the body of the current stream changes: by steps. Times are in milliseconds.
 use Rattle.std.specs.Prelude.{◌≡◌, ℕ, List, [], ◌∷◌, ◌++◌, None, true}
-use Rattle.std.specs.List.{flat_map}
+use Rattle.std.specs.List.{AllByRecursion, flat_map}
 use Rattle.mes_frame.specs.Frames.{record_bytes}
 use Rattle.mes_msg.specs.Canon.{canonical_text}
 use Rattle.mes_msg.specs.Event.{Event}
@@ -11,7 +10,6 @@ use Rattle.mes_stream.specs.Sending.{records_of}
 use Rattle.mes_double_faults.specs.Plans.{Plan, event_fault}
 use Rattle.mes_double_faults.specs.declared.fault.Fault.{Fault}
 use Rattle.mes_double_live.specs.Bodies.{BodyState, cleared, released, Obeys, Sends, Beats}
-use Rattle.mes_double_live.specs.declared.stream_body.Delivery.TheVariants.{Flowing}
 
 -- ---- steps
 
@@ -52,10 +50,35 @@ abbrev pub Leads : BodyState → List BodyStep → BodyState → Type 0
 Leads old [] new = new ≡ old
 Leads old (step ∷ steps) new = (next : BodyState) × StepsBody step old next × Leads next steps new
 
--- some steps lead from one body to another
-pub record StepsTo (old new : BodyState) : Type 0 where
+-- some steps lead from one body to another, and each is allowed
+pub record StepsTo (IsAllowed : BodyStep → Type 0) (old new : BodyState) : Type 0 where
   pub steps : List BodyStep
+  pub allowed : AllByRecursion IsAllowed steps
   pub leads : Leads old steps new
+
+-- events are sent, and what they demand is done
+abbrev pub IsSending : BodyStep → Type 0
+IsSending (sends now event) = Unit {0}
+IsSending beats = Unit {0}
+IsSending (obeys name) = Unit {0}
+IsSending _ = ⊥
+
+-- a call also has its planned fault noted, and ends a stream
+abbrev pub IsOfCall : BodyStep → Type 0
+IsOfCall clears = Unit {0}
+IsOfCall (notes fault) = Unit {0}
+IsOfCall step = IsSending step
+
+-- the time also releases bytes that are held
+abbrev pub IsOfTime : ℕ → BodyStep → Type 0
+IsOfTime time (releases now) = now ≡ time
+IsOfTime time step = IsSending step
+
+-- bytes, or the faults that happened, are taken
+abbrev pub IsTaking : BodyStep → Type 0
+IsTaking (goes bytes) = Unit {0}
+IsTaking takes = Unit {0}
+IsTaking _ = ⊥
 
 -- ---- a stream without faults
 
@@ -63,13 +86,9 @@ pub record StepsTo (old new : BodyState) : Type 0 where
 abbrev pub IsFaultless : Plan → Type 0
 IsFaultless plan = (number : ℕ) → event_fault plan number ≡ None
 
--- the body of a stream on which nothing was sent or demanded
-pub record IsFresh (body : BodyState) : Type 0 where
-  pub pending : body.pending ≡ []
-  pub held : body.held ≡ []
-  pub until : body.until ≡ None
-  pub fault : body.fault ≡ None
-  pub delivery : body.delivery ≡ Flowing
+-- no bytes are pending or held, and nothing is demanded of the stream
+abbrev pub IsFresh : BodyState → Type 0
+IsFresh body = cleared body ≡ body
 
 -- the step neither does what an event demands nor ends the stream
 abbrev pub IsPlain : BodyStep → Type 0
@@ -87,8 +106,8 @@ bytes_by (goes bytes) = bytes
 bytes_by _ = []
 
 -- the bytes that the steps write
-abbrev pub gone : List BodyStep → List ℕ
-gone steps = flat_map bytes_by steps
+abbrev pub bytes_written : List BodyStep → List ℕ
+bytes_written steps = flat_map bytes_by steps
 
 -- the records of the events that the steps send, HEARTBEATs among them
 abbrev pub sent_records : List BodyStep → List ℕ

@@ -25,7 +25,7 @@ use Rattle.mes_double_live.specs.declared.run_log.LogEntry.{LogEntry}
 pub record LiveState : Type 0 where
   pub master : MasterState
   pub cluster : ClusterState
-  -- the unacknowledged updates, in the order of their first sending
+  -- when each unacknowledged update was sent last, in the order of their first sending
   pub sent : List SentUpdate
   -- the body of the current stream, and the planned faults
   pub out : BodyState

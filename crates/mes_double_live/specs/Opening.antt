@@ -1,7 +1,7 @@
 -- How a new stream begins: the one before ends, and before any other event on it are SUBSCRIBED, a
 -- HEARTBEAT, and the unacknowledged updates.
 use Rattle.std.specs.Prelude.{◌≡◌, ℕ, Bool, true, false, List, [], ◌∷◌, ◌++◌, map, slice_get, Option, None, Some, codes}
-use Rattle.std.specs.List.{flat_map}
+use Rattle.std.specs.List.{AllByRecursion}
 use Rattle.mes_model.specs.OwedKey.{OwedKey}
 use Rattle.mes_model.specs.TaskStatus.{TaskStatus}
 use Rattle.mes_msg.specs.Event.{Event}
@@ -10,7 +10,7 @@ use Rattle.mes_double_master.specs.Masters.{MasterState, subscribed_event, updat
 use Rattle.mes_double_master.specs.Sending.{waiting}
 use Rattle.mes_double_live.specs.Bodies.{BodyState}
 use Rattle.mes_double_live.specs.Lives.{LiveState}
-use Rattle.mes_double_live.specs.BodySteps.{BodyStep, Leads, events_by}
+use Rattle.mes_double_live.specs.BodySteps.{BodyStep, Leads, IsSending}
 use Rattle.mes_double_live.specs.BodySteps.BodyStep.{sends, beats, clears}
 
 -- the body changes by these steps, and the time is the same
@@ -18,9 +18,10 @@ pub record Makes (steps : List BodyStep) (old new : LiveState) : Type 0 where
   pub leads : Leads old.out steps new.out
   pub time : new.time ≡ old.time
 
--- the body changes by these steps first, and then by some others
+-- the body changes by these steps first, and then only by events that are sent
 pub record BeginsWith (steps : List BodyStep) (old new : BodyState) : Type 0 where
   pub rest : List BodyStep
+  pub sending : AllByRecursion IsSending rest
   pub leads : Leads old (steps ++ rest) new
 
 -- these events are sent at this time, in order
@@ -36,9 +37,9 @@ abbrev pub Resends : ℕ → Bool → LiveState → LiveState → Type 0
 Resends index true old new = (event : Event) × (slice_get (unacknowledged old.master) index ≡ Some event) × Makes (sends old.time event ∷ []) old new
 Resends index false old new = (slice_get (unacknowledged old.master) index ≡ None) × Makes [] old new
 
--- a new stream ends the one before, if there is one, by an ERROR
+-- a new stream has no bytes of the one before, which is ended by an ERROR, if there is one
 abbrev pub replacing : ℕ → Option (List ℕ) → List BodyStep
-replacing now None = []
+replacing now None = clears ∷ []
 replacing now (Some id) = sends now (Error (record { message = codes "Framework failed over" })) ∷ clears ∷ []
 
 -- a new stream begins with these events
@@ -51,13 +52,7 @@ abbrev pub opening : LiveState → List BodyStep
 opening live = replacing live.time live.master.stream
     ++ beginning live.time (subscribed_event live.master.framework live.master.interval ∷ []) (unacknowledged live.master)
 
--- a stream was opened: before it no event was sent, and it begins so
-pub record Opens (old new : LiveState) : Type 0 where
-  pub before : List BodyStep
-  pub none : flat_map events_by before ≡ []
-  pub begins : BeginsWith (before ++ opening old) old.out new.out
-
--- by the id of the stream that a call opened
-abbrev pub OpensIf : Option (List ℕ) → LiveState → LiveState → Type 0
+-- if a stream was opened, it begins so
+abbrev pub OpensIf : Option (List ℕ) → LiveState → BodyState → Type 0
 OpensIf None old new = Unit {0}
-OpensIf (Some id) old new = Opens old new
+OpensIf (Some id) old new = BeginsWith (opening old) old.out new

@@ -5,7 +5,7 @@
 //! (`told`), the time (`passed`), a disconnected stream (`broken`), and bytes of the stream that
 //! were written (`wrote`). It knows no connection: the caller writes the bytes.
 //!
-//!     let mut live = Live::new(alloc, master, &settings);
+//!     let mut live = Live::new(alloc, master, &settings, plan);
 //!     let reply = live.call(stream, &call)?;
 //!     let count = write(live.pending())?;
 //!     live.wrote(count);

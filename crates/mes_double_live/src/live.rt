@@ -7,7 +7,7 @@ ghost use Rattle.mes_double_live.specs.Bodies.{empty, written, breaks_now, clear
 ghost use Rattle.mes_double_live.specs.Lives.{at_time, broke, faults_taken, new_live};
 ghost use Rattle.mes_double_live.specs.Moving.{Moves};
 ghost use Rattle.mes_double_live.specs.Opening.{Makes};
-ghost use Rattle.mes_double_live.specs.BodySteps.{StepsTo};
+ghost use Rattle.mes_double_live.specs.BodySteps.{StepsTo, IsSending, IsOfCall, IsOfTime, IsTaking};
 ghost use Rattle.mes_double_live.specs.BodySteps.BodyStep.{beats};
 
 mod accepting;
@@ -163,7 +163,7 @@ impl Live {
     pub fn take_happened(&mut self) -> Vec<Fault>
         ensures taken { result.items ≡ self.old.out.happened }
         ensures rest { self.new ≡ faults_taken self.old }
-        ensures steps { StepsTo self.old.out self.new.out }
+        ensures steps { StepsTo IsTaking self.old.out self.new.out }
     {
         let happened = self.out.take_happened();
         self.taken = self.taken.saturating_add(happened.len() as u64);
@@ -173,7 +173,7 @@ impl Live {
     /// Notes that the first `count` pending bytes were written.
     pub fn wrote(&mut self, count: usize)
         ensures state { self.new ≡ record self.old { out = written count self.old.out } }
-        ensures steps { StepsTo self.old.out self.new.out }
+        ensures steps { StepsTo IsTaking self.old.out self.new.out }
     {
         self.out.wrote(count);
     }
@@ -183,7 +183,7 @@ impl Live {
     pub fn broken(&mut self)
         ensures state { self.new ≡ broke self.old }
         ensures moves { Moves self.old.master self.new.master }
-        ensures steps { StepsTo self.old.out self.new.out }
+        ensures steps { StepsTo IsOfCall self.old.out self.new.out }
     {
         self.master.broken();
         self.cluster.disconnected(self.time);
@@ -194,7 +194,7 @@ impl Live {
     /// not written of it, or `None` without a stream. Otherwise it is like [`Live::broken`].
     pub fn stop(&mut self) -> Result<Option<EndedStream>, LiveFault>
         ensures moves { Moves self.old.master self.new.master }
-        ensures steps { OnOk result (StepsTo self.old.out self.new.out) }
+        ensures steps { OnOk result (StepsTo IsOfCall self.old.out self.new.out) }
     {
         let Some(id) = self.current() else {
             return Ok(None);
@@ -229,7 +229,8 @@ impl Live {
     pub fn passed(&mut self, now: u64) -> Result<(), LiveFault>
         // The test master changes only by its own deeds, and what these launch fits.
         ensures moves { Moves self.old.master self.new.master }
-        ensures steps { OnOk result (StepsTo self.old.out self.new.out) }
+        ensures steps { OnOk result (StepsTo (IsOfTime (at_time now self.old).time)
+            self.old.out self.new.out) }
     {
         self.note_time(now);
         if !self.has_stream() {
@@ -260,7 +261,7 @@ impl Live {
     /// Sends a HEARTBEAT if one is due.
     fn beat_due(&mut self) -> Result<(), LiveFault>
         ensures same { self.new.master ≡ self.old.master }
-        ensures steps { OnOk result (StepsTo self.old.out self.new.out) }
+        ensures steps { OnOk result (StepsTo IsSending self.old.out self.new.out) }
     {
         if self.beats_at <= self.time {
             self.beat()
@@ -302,7 +303,7 @@ impl Live {
     /// without a stream.
     pub fn beat(&mut self) -> Result<(), LiveFault>
         ensures same { self.new.master ≡ self.old.master }
-        ensures steps { OnOk result (StepsTo self.old.out self.new.out) }
+        ensures steps { OnOk result (StepsTo IsSending self.old.out self.new.out) }
         ensures beats { OnOk result (is_some self.old.master.stream ≡ true
             → Makes (beats ∷ []) self.old self.new) }
     {
@@ -316,7 +317,7 @@ impl Live {
     /// Sends the updates and then the offers that are due. Does nothing without a stream.
     fn send_due(&mut self) -> Result<(), LiveFault>
         ensures moves { Moves self.old.master self.new.master }
-        ensures steps { OnOk result (StepsTo self.old.out self.new.out) }
+        ensures steps { OnOk result (StepsTo IsSending self.old.out self.new.out) }
     {
         if !self.has_stream() {
             return Ok(());
@@ -328,7 +329,7 @@ impl Live {
     /// Makes the offers that are due, and sends them in one event.
     fn offer_due(&mut self) -> Result<(), LiveFault>
         ensures moves { Moves self.old.master self.new.master }
-        ensures steps { OnOk result (StepsTo self.old.out self.new.out) }
+        ensures steps { OnOk result (StepsTo IsSending self.old.out self.new.out) }
     {
         let made = self.make_offers()?;
         if made.is_empty() {

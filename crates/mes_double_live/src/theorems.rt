@@ -9,7 +9,7 @@ ghost use Rattle.mes_double_master.specs.Masters.{MasterState};
 ghost use Rattle.mes_double_master.specs.Runs.{master_with};
 ghost use Rattle.mes_double_live.specs.Bodies.{BodyState, empty, cleared, last_chunk};
 ghost use Rattle.mes_double_live.specs.Moving.{Moves, IsSafe};
-ghost use Rattle.mes_double_live.specs.BodySteps.{BodyStep, Leads, StepsTo, IsFaultless, IsFresh, IsPlain, gone, sent_records};
+ghost use Rattle.mes_double_live.specs.BodySteps.{BodyStep, Leads, IsFaultless, IsFresh, IsPlain, bytes_written, sent_records};
 ghost use Rattle.mes_double_live.specs.BodySteps.BodyStep.{clears};
 
 /// Proves what holds of the test master of a [`Live`](crate::Live) after any sequence of inputs,
@@ -30,29 +30,29 @@ pub fn live_laws()
 {}
 
 /// Proves what the bytes of a stream of a [`Live`](crate::Live) are. Each method of `Live` that
-/// succeeds ensures `StepsTo`: the body of the stream changes only by steps, and each step appends
-/// the chunks of one record, writes bytes, or ends the stream.
+/// succeeds ensures `StepsTo`: the body of the stream changes only by the steps that the method is
+/// allowed.
 ///
 /// - Methods that are called one after another change the body as one does.
-/// - On a stream without faults, the bytes written and pending, followed by a last chunk, are a
-///   chunked body. Its data are the records of the events that were sent, in order.
+/// - If the run plans no fault of an event, and no event demands one, the bytes written and pending
+///   of a stream, followed by a last chunk, are a chunked body. Its data are the records of the
+///   events that were sent, in order.
 pub fn stream_laws()
-    // No step leaves the body as it is.
-    ensures none { (body : BodyState) → StepsTo body body }
-    // Steps that follow one another are steps.
-    ensures then { (a b c : BodyState) → StepsTo a b → StepsTo b c → StepsTo a c }
-    // The body of a new test master is that of a stream on which nothing was sent.
+    // The steps of two calls, one after the other, lead from the first body to the last.
+    ensures then { (a b c : BodyState) (first next : List BodyStep) → Leads a first b
+        → Leads b next c → Leads a (first ++ next) c }
+    // The body of a new test master is that of a new stream.
     ensures first { (most : ℕ) (plan : Plan) → IsFresh (empty most plan) }
     // So is the body after a stream ended.
     ensures next { (body : BodyState) → IsFresh (cleared body) }
-    // The bytes of the first stream.
+    // The bytes of a stream that begins with such a body.
     ensures bytes { (old new : BodyState) (steps : List BodyStep) → IsFresh old
         → old.most < 2 ^ 64 → IsFaultless old.plan → AllByRecursion IsPlain steps
         → Leads old steps new
-        → IsChunked (gone steps ++ new.pending ++ last_chunk) (sent_records steps) }
-    // The bytes of each further stream, whatever was sent, demanded and lost on those before.
+        → IsChunked (bytes_written steps ++ new.pending ++ last_chunk) (sent_records steps) }
+    // The bytes of a stream after others, whatever was sent, demanded and lost on those.
     ensures later { (old new : BodyState) (before steps : List BodyStep) → old.most < 2 ^ 64
         → IsFaultless old.plan → AllByRecursion IsPlain steps
         → Leads old (before ++ clears ∷ steps) new
-        → IsChunked (gone steps ++ new.pending ++ last_chunk) (sent_records steps) }
+        → IsChunked (bytes_written steps ++ new.pending ++ last_chunk) (sent_records steps) }
 {}

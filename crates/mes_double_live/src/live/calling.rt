@@ -2,11 +2,12 @@
 ghost use Rattle.std.specs.Prelude.{◌≡◌, [], ◌++◌, true, is_some, None as none, option_copied, IfOk, OnOk};
 ghost use Rattle.mes_session_state.specs.Calls.{tasks_of};
 ghost use Rattle.mes_double_master.specs.Masters.{handled, is_subscribe, IsAnswer};
+ghost use Rattle.mes_double_live.specs.Bodies.{cleared};
 ghost use Rattle.mes_double_live.specs.Lives.{OpensBy, call_counted, call_status, planned_fault, reply_fault, resets, status_by};
 ghost use Rattle.mes_double_live.specs.Logs.{call_answered, IsLogged};
 ghost use Rattle.mes_double_live.specs.Moving.{Moves};
 ghost use Rattle.mes_double_live.specs.Opening.{BeginsWith, Makes, OpensIf, beginning, opening, replacing, sending, unacknowledged};
-ghost use Rattle.mes_double_live.specs.BodySteps.{StepsTo};
+ghost use Rattle.mes_double_live.specs.BodySteps.{StepsTo, IsSending, IsOfCall};
 
 use super::{Live, MAX_AHEAD};
 use crate::fault::LiveFault;
@@ -39,7 +40,7 @@ impl Live {
     pub fn call(&mut self, stream: Option<&StreamId>, call: &Call) -> Result<Reply, LiveFault>
         // The test master changes only by its own deeds, and what these launch fits.
         ensures moves { Moves self.old.master self.new.master }
-        ensures steps { OnOk result (StepsTo self.old.out self.new.out) }
+        ensures steps { OnOk result (StepsTo IsOfCall self.old.out self.new.out) }
         ensures status { IfOk result (λ reply. reply.status
             ≡ call_status self.old call.now (option_copied stream.entry)) }
         // What happens to the connection of the call.
@@ -48,7 +49,8 @@ impl Live {
         ensures opened { IfOk result (λ reply. OpensBy reply.opened reply.status) }
         // On a new stream, SUBSCRIBED and a HEARTBEAT are sent first, and then the unacknowledged
         // updates.
-        ensures opens { IfOk result (λ reply. OpensIf reply.opened self.old self.new) }
+        ensures opens { IfOk result (λ reply. OpensIf reply.opened
+            (call_counted self.old) self.new.out) }
         // The response is the last entry of the log.
         ensures logged { IfOk result (λ reply.
             IsLogged (call_answered call.now reply.status) self.new.log) }
@@ -65,12 +67,13 @@ impl Live {
         call: &Call,
     ) -> Result<Reply, LiveFault>
         ensures moves { Moves self.old.master self.new.master }
-        ensures steps { OnOk result (StepsTo self.old.out self.new.out) }
+        ensures steps { OnOk result (StepsTo IsOfCall self.old.out self.new.out) }
         ensures status { IfOk result (λ reply. reply.status
             ≡ call_status self.old call.now (option_copied stream.entry)) }
         ensures fault { IfOk result (λ reply. reply.fault ≡ reply_fault self.old) }
         ensures opened { IfOk result (λ reply. OpensBy reply.opened reply.status) }
-        ensures opens { IfOk result (λ reply. OpensIf reply.opened self.old self.new) }
+        ensures opens { IfOk result (λ reply. OpensIf reply.opened
+            (call_counted self.old) self.new.out) }
     {
         let fault = self.next_fault()?;
         let reply = self.respond_by(fault, stream, call)?;
@@ -85,11 +88,11 @@ impl Live {
         call: &Call,
     ) -> Result<Reply, LiveFault>
         ensures moves { Moves self.old.master self.new.master }
-        ensures steps { OnOk result (StepsTo self.old.out self.new.out) }
+        ensures steps { OnOk result (StepsTo IsOfCall self.old.out self.new.out) }
         ensures status { IfOk result (λ reply. reply.status ≡ status_by fault
             (handled self.old.master call.now (option_copied stream.entry)).status) }
         ensures opened { IfOk result (λ reply. OpensBy reply.opened reply.status) }
-        ensures opens { IfOk result (λ reply. OpensIf reply.opened self.old self.new) }
+        ensures opens { IfOk result (λ reply. OpensIf reply.opened self.old self.new.out) }
     {
         match fault {
             Some(CallFault::Busy | CallFault::Reset) => {
@@ -137,7 +140,7 @@ impl Live {
     pub fn reset(&mut self) -> Result<(), LiveFault>
         ensures same { self.new.master ≡ self.old.master }
         ensures counted { OnOk result (self.new ≡ call_counted self.old) }
-        ensures steps { OnOk result (StepsTo self.old.out self.new.out) }
+        ensures steps { OnOk result (StepsTo IsOfCall self.old.out self.new.out) }
     {
         self.next_fault()?;
         Ok(())
@@ -147,7 +150,7 @@ impl Live {
     /// 403.
     fn remove(&mut self, stream: Option<&StreamId>, call: &Call) -> Result<Reply, LiveFault>
         ensures moves { Moves self.old.master self.new.master }
-        ensures steps { OnOk result (StepsTo self.old.out self.new.out) }
+        ensures steps { OnOk result (StepsTo IsOfCall self.old.out self.new.out) }
         ensures status { IfOk result (λ reply. reply.status ≡ 403) }
         ensures opened { IfOk result (λ reply. reply.opened ≡ none) }
     {
@@ -165,7 +168,7 @@ impl Live {
         framework: &Id,
     ) -> Result<Option<EndedStream>, LiveFault>
         ensures moves { Moves self.old.master self.new.master }
-        ensures steps { OnOk result (StepsTo self.old.out self.new.out) }
+        ensures steps { OnOk result (StepsTo IsOfCall self.old.out self.new.out) }
     {
         let framework_id = framework.copy(self.alloc)?;
         let call = Call::Teardown { framework_id };
@@ -176,11 +179,11 @@ impl Live {
     /// Handles a call, and sends what is due after it.
     fn respond(&mut self, stream: Option<&StreamId>, call: &Call) -> Result<Reply, LiveFault>
         ensures moves { Moves self.old.master self.new.master }
-        ensures steps { OnOk result (StepsTo self.old.out self.new.out) }
+        ensures steps { OnOk result (StepsTo IsOfCall self.old.out self.new.out) }
         ensures status { IfOk result (λ reply. reply.status
             ≡ (handled self.old.master call.now (option_copied stream.entry)).status) }
         ensures opened { IfOk result (λ reply. OpensBy reply.opened reply.status) }
-        ensures opens { IfOk result (λ reply. OpensIf reply.opened self.old self.new) }
+        ensures opens { IfOk result (λ reply. OpensIf reply.opened self.old self.new.out) }
     {
         let reply = self.reply_to(stream, call)?;
         self.send_due()?;
@@ -189,11 +192,11 @@ impl Live {
 
     fn reply_to(&mut self, stream: Option<&StreamId>, call: &Call) -> Result<Reply, LiveFault>
         ensures moves { Moves self.old.master self.new.master }
-        ensures steps { OnOk result (StepsTo self.old.out self.new.out) }
+        ensures steps { OnOk result (StepsTo IsOfCall self.old.out self.new.out) }
         ensures status { IfOk result (λ reply. reply.status
             ≡ (handled self.old.master call.now (option_copied stream.entry)).status) }
         ensures opened { IfOk result (λ reply. OpensBy reply.opened reply.status) }
-        ensures opens { IfOk result (λ reply. OpensIf reply.opened self.old self.new) }
+        ensures opens { IfOk result (λ reply. OpensIf reply.opened self.old self.new.out) }
     {
         match call {
             Call::Subscribe { .. } => self.subscribe(stream, call),
@@ -221,11 +224,11 @@ impl Live {
         requires none { tasks_of call.now ≡ [] }
         requires subscribe { is_subscribe call.now ≡ true }
         ensures moves { Moves self.old.master self.new.master }
-        ensures steps { OnOk result (StepsTo self.old.out self.new.out) }
+        ensures steps { OnOk result (StepsTo IsOfCall self.old.out self.new.out) }
         ensures status { IfOk result (λ reply. reply.status
             ≡ (handled self.old.master call.now (option_copied stream.entry)).status) }
         ensures opened { IfOk result (λ reply. OpensBy reply.opened reply.status) }
-        ensures opens { IfOk result (λ reply. OpensIf reply.opened self.old self.new) }
+        ensures opens { IfOk result (λ reply. OpensIf reply.opened self.old self.new.out) }
     {
         let old = self.current();
         let answer = self.handle(stream, call)?;
@@ -268,11 +271,21 @@ impl Live {
         ensures ends { OnOk result (Makes (replacing self.old.time old) self.old self.new) }
     {
         let Some(id) = old else {
+            self.clear();
             return Ok(None);
         };
         let message = Text::of(self.alloc, FAILED_OVER)?;
         self.push(&Event::Error(ErrorBody { message }))?;
         Ok(Some(self.end_stream(id)?))
+    }
+
+    /// Drops all bytes that are not written.
+    fn clear(&mut self)
+        ensures same { self.new.master ≡ self.old.master }
+        ensures cleared { self.new.out ≡ cleared self.old.out }
+        ensures time { self.new.time ≡ self.old.time }
+    {
+        self.out.clear();
     }
 
     /// Sends events of the master.
@@ -290,7 +303,7 @@ impl Live {
     fn carry_out(&mut self, stream: Option<&StreamId>, call: &Call) -> Result<Reply, LiveFault>
         requires { tasks_of call.now ≡ [] }
         ensures moves { Moves self.old.master self.new.master }
-        ensures steps { OnOk result (StepsTo self.old.out self.new.out) }
+        ensures steps { OnOk result (StepsTo IsOfCall self.old.out self.new.out) }
         ensures status { IfOk result (λ reply. reply.status
             ≡ (handled self.old.master call.now (option_copied stream.entry)).status) }
         ensures opened { IfOk result (λ reply. OpensBy reply.opened reply.status) }
@@ -319,7 +332,7 @@ impl Live {
         events: &[Event],
     ) -> Result<Option<EndedStream>, LiveFault>
         ensures same { self.new.master ≡ self.old.master }
-        ensures steps { OnOk result (StepsTo self.old.out self.new.out) }
+        ensures steps { OnOk result (StepsTo IsOfCall self.old.out self.new.out) }
     {
         match (call, old) {
             (Call::Teardown { .. }, Some(id)) => Ok(Some(self.end_stream(id)?)),
@@ -334,7 +347,7 @@ impl Live {
     /// Changes the cluster as a call demands that the master carried out, and sends what follows.
     fn follow(&mut self, call: &Call) -> Result<(), LiveFault>
         ensures same { self.new.master ≡ self.old.master }
-        ensures steps { OnOk result (StepsTo self.old.out self.new.out) }
+        ensures steps { OnOk result (StepsTo IsSending self.old.out self.new.out) }
     {
         match call {
             Call::Decline { body, .. } => {
@@ -376,7 +389,7 @@ impl Live {
     /// lost; one that only events from outside reported is left to them.
     fn kill(&mut self, body: &Kill) -> Result<(), LiveFault>
         ensures same { self.new.master ≡ self.old.master }
-        ensures steps { OnOk result (StepsTo self.old.out self.new.out) }
+        ensures steps { OnOk result (StepsTo IsSending self.old.out self.new.out) }
     {
         if self.cluster.kill(&body.task_id) || self.is_reported_alive(&body.task_id) {
             return Ok(());
@@ -395,7 +408,7 @@ impl Live {
     /// Sends an UPDATE of each of these tasks that has no status.
     fn reconcile_unknown(&mut self, tasks: &[TaskRef]) -> Result<(), LiveFault>
         ensures same { self.new.master ≡ self.old.master }
-        ensures steps { OnOk result (StepsTo self.old.out self.new.out) }
+        ensures steps { OnOk result (StepsTo IsSending self.old.out self.new.out) }
     {
         for task in tasks {
             self.reconcile_task(task)?;
@@ -406,7 +419,7 @@ impl Live {
     /// Sends an UPDATE of this task if it has no status.
     fn reconcile_task(&mut self, task: &TaskRef) -> Result<(), LiveFault>
         ensures same { self.new.master ≡ self.old.master }
-        ensures steps { OnOk result (StepsTo self.old.out self.new.out) }
+        ensures steps { OnOk result (StepsTo IsSending self.old.out self.new.out) }
     {
         if self.master.last_status(&task.task_id).is_some() {
             return Ok(());
@@ -417,7 +430,7 @@ impl Live {
     /// Reports a task that nobody knows as lost.
     fn send_unknown(&mut self, task: &Id, agent: Option<&Id>) -> Result<(), LiveFault>
         ensures same { self.new.master ≡ self.old.master }
-        ensures steps { OnOk result (StepsTo self.old.out self.new.out) }
+        ensures steps { OnOk result (StepsTo IsSending self.old.out self.new.out) }
     {
         let status = task_unknown(self.alloc, task, agent)?;
         self.send_status(&status)
@@ -426,7 +439,7 @@ impl Live {
     /// Sends an UPDATE that the master does not record, since it launched no such task.
     pub(super) fn send_status(&mut self, status: &TaskStatus) -> Result<(), LiveFault>
         ensures same { self.new.master ≡ self.old.master }
-        ensures steps { OnOk result (StepsTo self.old.out self.new.out) }
+        ensures steps { OnOk result (StepsTo IsSending self.old.out self.new.out) }
     {
         let event = events::update(self.alloc, status)?;
         self.push(&event)
@@ -435,7 +448,7 @@ impl Live {
     /// Sends the FAILURE of an executor that was shut down.
     fn shut_down(&mut self, body: &Shutdown) -> Result<(), LiveFault>
         ensures same { self.new.master ≡ self.old.master }
-        ensures steps { OnOk result (StepsTo self.old.out self.new.out) }
+        ensures steps { OnOk result (StepsTo IsSending self.old.out self.new.out) }
     {
         let failure = Failure {
             agent_id: Some(body.agent_id.copy(self.alloc)?),

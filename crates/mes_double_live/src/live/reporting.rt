@@ -4,7 +4,7 @@ ghost use Rattle.std.specs.Prelude.{◌≡◌, true, is_some, IfOk, OnOk};
 ghost use Rattle.mes_double_live.specs.Lives.{update_sent};
 ghost use Rattle.mes_double_live.specs.Moving.{Moves};
 ghost use Rattle.mes_double_live.specs.Opening.{Makes, Resends, sending, unacknowledged};
-ghost use Rattle.mes_double_live.specs.BodySteps.{StepsTo};
+ghost use Rattle.mes_double_live.specs.BodySteps.{StepsTo, IsSending};
 
 use super::Live;
 use crate::fault::LiveFault;
@@ -17,7 +17,7 @@ impl Live {
     /// Sends the updates again whose time has come.
     pub(super) fn resend_due(&mut self) -> Result<(), LiveFault>
         ensures same { self.new.master ≡ self.old.master }
-        ensures steps { OnOk result (StepsTo self.old.out self.new.out) }
+        ensures steps { OnOk result (StepsTo IsSending self.old.out self.new.out) }
     {
         let Some(every) = self.settings.resend else {
             return Ok(());
@@ -51,7 +51,7 @@ impl Live {
     /// Sends the unacknowledged update at an index again. Returns false if there is none.
     fn resend(&mut self, index: usize) -> Result<bool, LiveFault>
         ensures same { self.new.master ≡ self.old.master }
-        ensures steps { OnOk result (StepsTo self.old.out self.new.out) }
+        ensures steps { OnOk result (StepsTo IsSending self.old.out self.new.out) }
         ensures again { IfOk result (λ found. is_some self.old.master.stream ≡ true
             → Resends index found self.old self.new) }
     {
@@ -69,7 +69,7 @@ impl Live {
     /// Sends the next update of each task that has one due.
     pub(super) fn report_due(&mut self) -> Result<(), LiveFault>
         ensures moves { Moves self.old.master self.new.master }
-        ensures steps { OnOk result (StepsTo self.old.out self.new.out) }
+        ensures steps { OnOk result (StepsTo IsSending self.old.out self.new.out) }
     {
         for index in 0..self.tasks_len() {
             self.report_at(index)?;
@@ -80,7 +80,7 @@ impl Live {
     /// Sends the next update of the task at an index, if it is due.
     fn report_at(&mut self, index: usize) -> Result<(), LiveFault>
         ensures moves { Moves self.old.master self.new.master }
-        ensures steps { OnOk result (StepsTo self.old.out self.new.out) }
+        ensures steps { OnOk result (StepsTo IsSending self.old.out self.new.out) }
     {
         match self.status_due(index)? {
             Some(status) => self.report(index, &status),
@@ -101,7 +101,7 @@ impl Live {
     /// update gets the next one later.
     fn report(&mut self, index: usize, status: &TaskStatus) -> Result<(), LiveFault>
         ensures moves { Moves self.old.master self.new.master }
-        ensures steps { OnOk result (StepsTo self.old.out self.new.out) }
+        ensures steps { OnOk result (StepsTo IsSending self.old.out self.new.out) }
     {
         match self.update(status)? {
             Some(event) => self.send_first(index, status, &event),
@@ -132,7 +132,7 @@ impl Live {
         event: &Event,
     ) -> Result<(), LiveFault>
         ensures same { self.new.master ≡ self.old.master }
-        ensures steps { OnOk result (StepsTo self.old.out self.new.out) }
+        ensures steps { OnOk result (StepsTo IsSending self.old.out self.new.out) }
     {
         self.cluster.reported(index, status.state, self.time);
         self.note_sent(status)?;

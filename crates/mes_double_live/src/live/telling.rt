@@ -2,7 +2,7 @@
 ghost use Rattle.std.specs.Prelude.{◌≡◌, OnOk};
 ghost use Rattle.mes_double_live.specs.Lives.{with_stock};
 ghost use Rattle.mes_double_live.specs.Moving.{Moves};
-ghost use Rattle.mes_double_live.specs.BodySteps.{StepsTo};
+ghost use Rattle.mes_double_live.specs.BodySteps.{StepsTo, IsSending};
 
 use super::Live;
 use crate::fault::LiveFault;
@@ -25,7 +25,7 @@ impl Live {
     pub fn told(&mut self, event: Event) -> Result<(), LiveFault>
         // The test master changes only by its own deeds, and what these launch fits.
         ensures moves { Moves self.old.master self.new.master }
-        ensures steps { OnOk result (StepsTo self.old.out self.new.out) }
+        ensures steps { OnOk result (StepsTo IsSending self.old.out self.new.out) }
     {
         match event {
             Event::Subscribed(_) => Ok(()),
@@ -40,7 +40,7 @@ impl Live {
     /// Has one more call answered with 503 for a BUSY, or takes another event.
     fn take_other(&mut self, event: Event) -> Result<(), LiveFault>
         ensures moves { Moves self.old.master self.new.master }
-        ensures steps { OnOk result (StepsTo self.old.out self.new.out) }
+        ensures steps { OnOk result (StepsTo IsSending self.old.out self.new.out) }
     {
         if is_busy(&event) {
             self.add_busy();
@@ -70,7 +70,7 @@ impl Live {
     /// wait.
     fn take(&mut self, event: Event) -> Result<(), LiveFault>
         ensures moves { Moves self.old.master self.new.master }
-        ensures steps { OnOk result (StepsTo self.old.out self.new.out) }
+        ensures steps { OnOk result (StepsTo IsSending self.old.out self.new.out) }
     {
         if !self.has_stream() || !self.waiting.is_empty() || !self.out.takes_more(usize::MAX) {
             return self.store(event);
@@ -93,7 +93,7 @@ impl Live {
     /// that reads its stream receives any number of them in little memory.
     pub(super) fn deliver_waiting(&mut self, most: usize) -> Result<(), LiveFault>
         ensures moves { Moves self.old.master self.new.master }
-        ensures steps { OnOk result (StepsTo self.old.out self.new.out) }
+        ensures steps { OnOk result (StepsTo IsSending self.old.out self.new.out) }
     {
         for _ in 0..self.waiting.len() {
             if !self.out.takes_more(most) {
@@ -107,7 +107,7 @@ impl Live {
     /// Sends the first event that waited for a stream, if there is one.
     fn deliver_first(&mut self) -> Result<(), LiveFault>
         ensures moves { Moves self.old.master self.new.master }
-        ensures steps { OnOk result (StepsTo self.old.out self.new.out) }
+        ensures steps { OnOk result (StepsTo IsSending self.old.out self.new.out) }
     {
         match self.take_first() {
             Some(event) => self.deliver(&event),
@@ -124,7 +124,7 @@ impl Live {
     /// Sends an event from outside on the current stream.
     fn deliver(&mut self, event: &Event) -> Result<(), LiveFault>
         ensures moves { Moves self.old.master self.new.master }
-        ensures steps { OnOk result (StepsTo self.old.out self.new.out) }
+        ensures steps { OnOk result (StepsTo IsSending self.old.out self.new.out) }
     {
         if self.admit(event)? {
             self.send(event)
@@ -148,7 +148,7 @@ impl Live {
     /// Sends an event, or does what its name demands of the stream.
     fn send(&mut self, event: &Event) -> Result<(), LiveFault>
         ensures same { self.new.master ≡ self.old.master }
-        ensures steps { OnOk result (StepsTo self.old.out self.new.out) }
+        ensures steps { OnOk result (StepsTo IsSending self.old.out self.new.out) }
     {
         if self.obeys(event) {
             return Ok(());
@@ -159,7 +159,7 @@ impl Live {
     /// Does what the name of an event demands of the stream. Returns false if it demands nothing.
     fn obeys(&mut self, event: &Event) -> bool
         ensures same { self.new.master ≡ self.old.master }
-        ensures steps { StepsTo self.old.out self.new.out }
+        ensures steps { StepsTo IsSending self.old.out self.new.out }
     {
         match event {
             Event::Other(name) => self.out.obey(name.as_str()),

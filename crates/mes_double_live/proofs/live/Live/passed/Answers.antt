@@ -1,7 +1,7 @@
 use Rattle.std.proofs.Common.{ap, ◌∙◌}
 use Rattle.mes_double_live.specs.Lives.{LiveState}
 use Rattle.mes_double_live.proofs.MoveLemmas.{moves-from, moves-then}
-use Rattle.mes_double_live.proofs.StepLemmas.{steps-same, steps-then, steps-from, steps-last, same-out, released-steps}
+use Rattle.mes_double_live.proofs.StepLemmas.{steps-same, steps-then, steps-from, same-out, released-steps, time-last}
 use Rattle.mes_double_live.proofs.live.Live.passed.Goals as goal
 
 pub returns-clause-moves : goal.returns-clause-moves
@@ -14,6 +14,7 @@ returns-then-not-has_stream-clause-steps c = steps-same _ _ (same-out _ _ c.note
 
 pub returns-clause-steps : goal.returns-clause-steps
 returns-clause-steps c =
-    let released = steps-from _ _ _ (same-out _ _ c.note_time.ensures) (released-steps _ _ _ c.in_ok-release.ensures.released) in
+    let time = ap (λ (live : LiveState). live.time) c.note_time.ensures in
+    let released = steps-from _ _ _ (same-out _ _ c.note_time.ensures) (released-steps _ _ _ _ time c.in_ok-release.ensures.released) in
     let due = steps-then _ _ _ c.in_ok-beat_due.ensures.steps c.in_ok-resend_due.ensures.steps in
-    steps-last _ _ _ _ (steps-then _ _ _ released (steps-then _ _ _ c.in_ok-deliver_waiting.ensures.steps due)) c.send_due.ensures.steps
+    time-last _ _ _ _ _ _ released (steps-then _ _ _ c.in_ok-deliver_waiting.ensures.steps due) c.send_due.ensures.steps

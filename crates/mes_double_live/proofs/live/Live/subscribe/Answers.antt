@@ -1,7 +1,7 @@
 use Rattle.std.proofs.Common.{◌≡◌, List, subst, sym, rules}
 use Rattle.mes_msg.specs.Event.{Event}
 use Rattle.mes_double_live.proofs.MoveLemmas.{moves-then}
-use Rattle.mes_double_live.proofs.OpenLemmas.{Subscribes, begins-steps, opens-by, opens-new, subscribes}
+use Rattle.mes_double_live.proofs.OpenLemmas.{Subscribes, beginning-allowed, begins-steps, opens-by, opens-new, subscribes}
 use Rattle.mes_double_live.proofs.StepLemmas.{steps-from}
 use Rattle.mes_double_live.proofs.live.Live.subscribe.Goals as goal
 
@@ -12,7 +12,7 @@ pub returns-clause-moves : goal.returns-clause-moves
 returns-clause-moves c = moves-then _ _ _ c.handle.ensures.moves c.open_stream.ensures.moves
 
 pub returns-clause-steps : goal.returns-clause-steps
-returns-clause-steps c = steps-from _ _ _ c.handle.ensures.kept (begins-steps _ _ _ c.in_ok-ended.ensures.begins)
+returns-clause-steps c = steps-from _ _ _ c.handle.ensures.kept (begins-steps _ _ _ (beginning-allowed _ _ _ _ _) c.in_ok-ended.ensures.begins)
 
 pub returns-clause-opens : goal.returns-clause-opens
 returns-clause-opens c =
