@@ -3,8 +3,8 @@ use Rattle.std.proofs.Common.{◌≡◌, ℕ, List, [], ◌∷◌, ◌++◌, inl
 use Rattle.mes_double_faults.specs.declared.fault.EventFault.{EventFault}
 use Rattle.mes_double_faults.specs.declared.fault.EventFault.TheVariants.{Lost, Repeated, Cut, Late, Muted as GoesMute}
 use Rattle.mes_double_live.specs.Bodies.{BodyState, released_by, held_back, appended_by, due, Appends, next_fault, counted, SendsIf, SendsBy, BeatsIf, IsDemand}
-use Rattle.mes_double_live.specs.BodySteps.{BodyStep, StepsBody, Leads}
-use Rattle.mes_double_live.specs.BodySteps.BodyStep.{sends, beats, obeys, releases, goes, clears, notes, takes}
+use Rattle.mes_double_live.specs.Steps.{Step, StepsBody, LeadsBody}
+use Rattle.mes_double_live.specs.Steps.Step.{sends, resends, relays, reports, beats, obeys, waits, drops, releases, goes, clears, notes, takes, launches, acknowledges, kills, forgets}
 use Rattle.mes_double_live.specs.declared.stream_body.Delivery.{Delivery}
 use Rattle.mes_double_live.specs.declared.stream_body.Delivery.TheVariants.{Flowing, Muted, Broken}
 
@@ -59,23 +59,32 @@ obeys-keeps name old new by = elim by [
   | inr (inr (inr (inr break))) ↦ keeps-by old new _ break.1 (record { most = refl; plan = refl })
 ]
 
-step-keeps : (step : BodyStep) (old new : BodyState) → StepsBody step old new → Keeps old new
+step-keeps : (step : Step) (old new : BodyState) → StepsBody step old new → Keeps old new
 step-keeps (sends now event) old new is = sends-keeps old.delivery now old new _ is
+step-keeps (resends now event) old new is = sends-keeps old.delivery now old new _ is
+step-keeps (relays now event) old new is = sends-keeps old.delivery now old new _ is
+step-keeps (reports now index update finishes status) old new is = sends-keeps old.delivery now old new _ is
 step-keeps beats old new is = beats-keeps old.delivery old new _ is
 step-keeps (obeys name) old new is = obeys-keeps name old new is
+step-keeps (waits event) old new is = keeps-by old new old is (record { most = refl; plan = refl })
+step-keeps (drops event) old new is = keeps-by old new old is (record { most = refl; plan = refl })
 step-keeps (releases now) old new is = keeps-by old new _ is (released-keeps old.until now old)
 step-keeps (goes bytes) old new is = keeps-by old new _ is.1 (record { most = refl; plan = refl })
 step-keeps clears old new is = keeps-by old new _ is (record { most = refl; plan = refl })
 step-keeps (notes fault) old new is = keeps-by old new _ is (record { most = refl; plan = refl })
 step-keeps takes old new is = keeps-by old new _ is (record { most = refl; plan = refl })
+step-keeps (launches launch tasks) old new is = keeps-by old new old is (record { most = refl; plan = refl })
+step-keeps (acknowledges body) old new is = keeps-by old new old is (record { most = refl; plan = refl })
+step-keeps (kills id) old new is = keeps-by old new old is (record { most = refl; plan = refl })
+step-keeps (forgets id) old new is = keeps-by old new old is (record { most = refl; plan = refl })
 
 -- the last steps begin at a body with the same size of chunks and the same planned faults
-pub record Split (old new : BodyState) (steps : List BodyStep) : Type 0 where
+pub record Split (old new : BodyState) (steps : List Step) : Type 0 where
   pub mid : BodyState
   pub keeps : Keeps old mid
-  pub leads : Leads mid steps new
+  pub leads : LeadsBody mid steps new
 
-pub leads-split : (before steps : List BodyStep) (old new : BodyState) → Leads old (before ++ steps) new → Split old new steps
+pub leads-split : (before steps : List Step) (old new : BodyState) → LeadsBody old (before ++ steps) new → Split old new steps
 leads-split [] steps old new leads = record { mid = old; keeps = record { most = refl; plan = refl }; leads = leads }
 leads-split (step ∷ before) steps old new (next, is, rest) =
     let later = leads-split before steps next new rest in

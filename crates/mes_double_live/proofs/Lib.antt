@@ -3,6 +3,10 @@ pub mod FitLemmas
 pub mod SafeLemmas
 pub mod TakenLemmas
 pub mod StepLemmas
+pub mod CallLemmas
+pub mod WaitLemmas
+pub mod TaskLemmas
+pub mod ReportLemmas
 pub mod OpenLemmas
 pub mod ChunkLemmas
 pub mod KeepLemmas

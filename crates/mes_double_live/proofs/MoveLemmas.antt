@@ -9,10 +9,10 @@ use Rattle.mes_double_master.specs.Sending.{Sends, offers_sent, rescind_sent, up
 use Rattle.mes_double_master.specs.Runs.{Deed, after_sending}
 use Rattle.mes_double_master.specs.Runs.Deed.{handles, offers, rescinds, updates, breaks}
 use Rattle.mes_double_live.specs.Lives.{LiveState}
-use Rattle.mes_double_live.specs.Moving.{LaunchFits, DeedFits, past_at, after_deed, Leads, Moves}
+use Rattle.mes_double_live.specs.Moving.{LaunchFits, DeedFits, past_at, after_deed, DeedsLead, Moves}
 
-leads-then : (m : MasterState) (ds es : List Deed) (n o : MasterState) → Leads m ds n → Leads n es o → Leads m (ds ++ es) o
-leads-then m [] es n o first next = subst (λ (x : MasterState). Leads x es o) first next
+leads-then : (m : MasterState) (ds es : List Deed) (n o : MasterState) → DeedsLead m ds n → DeedsLead n es o → DeedsLead m (ds ++ es) o
+leads-then m [] es n o first next = subst (λ (x : MasterState). DeedsLead x es o) first next
 leads-then m (d ∷ ds) es n o first next = (first.0, leads-then (after_deed m d) ds es n o first.1 next)
 
 pub moves-same : (m n : MasterState) → n ≡ m → Moves m n

@@ -1,6 +1,6 @@
 -- How the steps with which a stream begins follow one another.
-use Rattle.std.proofs.Common.{◌≡◌, ◌∙◌, ap, subst, sym, refl, ℕ, ◌+◌, ◌<◌, ◌≤◌, Bool, true, false, if◌then◌else◌, List, [], ◌∷◌, ◌++◌, take, length, get_or, Option, None, Some, Result, Ok, Err, IfOk, arith}
-use Rattle.std.proofs.lemmas.List.{append_assoc, map-append, take_all, take_more}
+use Rattle.std.proofs.Common.{◌≡◌, ◌∙◌, ap, subst, sym, refl, ℕ, ◌+◌, ◌<◌, ◌≤◌, Bool, true, false, if◌then◌else◌, List, [], ◌∷◌, ◌++◌, take, length, get_or, map, Option, None, Some, Result, Ok, Err, IfOk, arith}
+use Rattle.std.proofs.lemmas.List.{append-nil, append_assoc, map-append, take_all, take_more}
 use Rattle.std.proofs.lemmas.Option.{slice_get-map, slice_get_within, get_or_from_slice_get}
 use Rattle.std.specs.List.{AllByRecursion, slice_get}
 use Rattle.mes_frame.proofs.Chunks.{all_append}
@@ -14,39 +14,55 @@ use Rattle.mes_double_master.specs.Sending.{Sends, resend_sent, resent, waiting}
 use Rattle.mes_session_state.specs.Calls.{framework_of}
 use Rattle.mes_double_master.specs.declared.refusal.MasterRefusal.TheVariants.{NoStream}
 use Rattle.mes_msg.specs.Event.TheVariants.{Error}
-use Rattle.mes_double_live.specs.Bodies.{BodyState, cleared}
 use Rattle.mes_double_live.specs.Lives.{LiveState, Pushes}
-use Rattle.mes_double_live.specs.Opening.{Makes, BeginsWith, OpensIf, Resends, beginning, opening, replacing, sending, unacknowledged}
-use Rattle.mes_double_live.specs.BodySteps.{BodyStep, Leads, StepsTo, IsOfCall, IsSending}
-use Rattle.mes_double_live.specs.BodySteps.BodyStep.{sends, beats, clears}
+use Rattle.mes_double_live.specs.Opening.{ChangesBy, OpensIf, Resends, beginning, opening, replacing, resending, sending, unacknowledged}
+use Rattle.mes_double_live.specs.Steps.{Step, Leads, BeginsWith, StepsTo, NeedsNone, IsOfCall, IsSending}
+use Rattle.mes_double_live.specs.Steps.Step.{sends, resends, beats, clears}
 use Rattle.mes_double_live.specs.declared.reply.Reply.{Reply}
-use Rattle.mes_double_live.proofs.StepLemmas.{all-wider, leads-then, sending-of-call}
+use Rattle.mes_double_live.proofs.StepLemmas.{Same, all-wider, leads-from, leads-to, leads-then, pushed-leads, same, same-by, steps-one}
+use Rattle.mes_double_live.proofs.CallLemmas.{sending-of-call}
 
 -- ---- steps
 
-pub makes-none : (old new : LiveState) → new ≡ old → Makes [] old new
-makes-none old new e = record { leads = ap (λ (x : LiveState). x.out) e; time = ap (λ (x : LiveState). x.time) e }
+pub makes-none : (old new : LiveState) → new ≡ old → ChangesBy [] old new
+makes-none old new e = let is = same old new e in record { leads = record { body = is.body; tasks = is.tasks; waiting = is.waiting }; time = ap (λ (x : LiveState). x.time) e }
 
-pub makes-then : (s t : List BodyStep) (a b c : LiveState) → Makes s a b → Makes t b c → Makes (s ++ t) a c
-makes-then s t a b c first next = record { leads = leads-then a.out b.out c.out s t first.leads next.leads; time = next.time ∙ first.time }
+pub makes-then : (s t : List Step) (a b c : LiveState) → ChangesBy s a b → ChangesBy t b c → ChangesBy (s ++ t) a c
+makes-then s t a b c first next = record { leads = leads-then a b c s t first.leads next.leads; time = next.time ∙ first.time }
 
-sending-allowed : (P : BodyStep → Type 0) → ((now : ℕ) (event : Event) → P (sends now event)) → (now : ℕ) (events : List Event) → AllByRecursion P (sending now events)
-sending-allowed P may now [] = tt
-sending-allowed P may now (event ∷ events) = (may now event, sending-allowed P may now events)
+-- the body, the tasks and the time are the same up to `b`
+pub makes-from : (steps : List Step) (a b c : LiveState) → Same a b → b.time ≡ a.time → ChangesBy steps b c → ChangesBy steps a c
+makes-from steps a b c e time makes = record { leads = leads-from a b c steps e makes.leads; time = makes.time ∙ time }
+
+pub made-steps : {P : Step → Type 0} (step : Step) (a b : LiveState) → P step → ChangesBy (step ∷ []) a b → StepsTo P a b
+made-steps step a b may makes = steps-one step a b may makes.leads
+
+-- these steps, and then events are sent
+pub makes-begins : (steps : List Step) (a b c : LiveState) → ChangesBy steps a b → StepsTo IsSending b c → BeginsWith steps a c
+makes-begins steps a b c makes after = record { rest = after.steps; sending = after.allowed; leads = leads-then a b c steps after.steps makes.leads after.leads }
+
+pub begins-only : (steps : List Step) (a b : LiveState) → ChangesBy steps a b → BeginsWith steps a b
+begins-only steps a b makes = record { rest = []; sending = tt; leads = subst (λ (l : List Step). Leads a l b) (sym (append-nil steps)) makes.leads }
+
+-- no step comes first
+pub begins-sending : (steps : List Step) (a b : LiveState) → steps ≡ [] → StepsTo IsSending a b → BeginsWith steps a b
+begins-sending steps a b none all = record { rest = all.steps; sending = all.allowed; leads = subst (λ (l : List Step). Leads a (l ++ all.steps) b) (sym none) all.leads }
+
+pub sending-allowed : (P : Step → Type 0) → ((now : ℕ) (event : Event) → NeedsNone event → P (sends now event)) → (now : ℕ) (events : List Event) → AllByRecursion NeedsNone events
+    → AllByRecursion P (sending now events)
+sending-allowed P may now [] all = tt
+sending-allowed P may now (event ∷ events) all = (may now event all.0, sending-allowed P may now events all.1)
 
 -- events are sent, in order
-pub sent-steps : (now : ℕ) (events : List Event) (a b : LiveState) → Makes (sending now events) a b → StepsTo IsSending a.out b.out
-sent-steps now events a b makes = record { steps = sending now events; allowed = sending-allowed IsSending (λ n e. tt) now events; leads = makes.leads }
+pub sent-all : (now : ℕ) (events : List Event) (a b : LiveState) → AllByRecursion NeedsNone events → ChangesBy (sending now events) a b → StepsTo IsSending a b
+sent-all now events a b all makes = record { steps = sending now events; allowed = sending-allowed IsSending (λ n e k. k) now events all; leads = makes.leads }
 
--- an event is sent by a state with the same body and time
-pub pushed-makes : (event : Event) (old mid new : LiveState) → mid.out ≡ old.out → mid.time ≡ old.time → Pushes event mid new → Makes (sends old.time event ∷ []) old new
-pushed-makes event old mid new body time pushes =
-    let is : Makes (sends mid.time event ∷ []) mid new = record { leads = (new.out, pushes.body, refl); time = ap (λ (x : LiveState). x.time) pushes.rest } in
-    let from : Leads old.out (sends mid.time event ∷ []) new.out = subst (λ (x : BodyState). Leads x (sends mid.time event ∷ []) new.out) body is.leads in
-    record { leads = subst (λ (now : ℕ). Leads old.out (sends now event ∷ []) new.out) time from; time = is.time ∙ time }
-
-pub cleared-makes : (old new : LiveState) → new.out ≡ cleared old.out → new.time ≡ old.time → Makes (clears ∷ []) old new
-cleared-makes old new is time = record { leads = (new.out, is, refl); time = time }
+-- an event is sent
+pub pushed-makes : (event : Event) (a b : LiveState) → Pushes event a b → ChangesBy (sends a.time event ∷ []) a b
+pushed-makes event a b pushes = record {
+  leads = pushed-leads (sends a.time event) event a b pushes (λ x. x) (λ x. x) (λ x. x);
+  time = ap (λ (x : LiveState). x.time) pushes.rest;
+}
 
 -- ---- updates that are sent again
 
@@ -68,96 +84,111 @@ found-update m i event on e =
     ∙ sent-again (is_some m.stream) m (slice_get (waiting m.owing m.acked) i) event on e
 
 -- `t` is the view of the fields of a live test master of the value `s`
-pub resent-found : (s t mid new : LiveState) (i : ℕ) (event : Event) → t ≡ s → mid.out ≡ t.out → mid.time ≡ t.time
+pub resent-found : (s t mid new : LiveState) (i : ℕ) (event : Event) → t ≡ s → Same t mid → mid.time ≡ t.time
     → resend_sent t.master i ≡ Ok (event, t.master) → Pushes event mid new → is_some s.master.stream ≡ true → Resends i true s new
-resent-found s t mid new i event e body time ok pushes on = (
-  event,
-  found-update s.master i event on (subst (λ (x : LiveState). resend_sent x.master i ≡ Ok (event, x.master)) e ok),
-  pushed-makes event s mid new (body ∙ ap (λ (x : LiveState). x.out) e) (time ∙ ap (λ (x : LiveState). x.time) e) pushes,
-)
+resent-found s t mid new i event e is time ok pushes on =
+    let one : ChangesBy (resends mid.time event ∷ []) mid new =
+    record { leads = pushed-leads (resends mid.time event) event mid new pushes (λ x. x) (λ x. x) (λ x. x); time = ap (λ (x : LiveState). x.time) pushes.rest } in
+    let from : ChangesBy (resends mid.time event ∷ []) t new = makes-from _ t mid new is time one in
+    let at : ChangesBy (resends t.time event ∷ []) t new = subst (λ (now : ℕ). ChangesBy (resends now event ∷ []) t new) time from in (
+      event,
+      found-update s.master i event on (subst (λ (x : LiveState). resend_sent x.master i ≡ Ok (event, x.master)) e ok),
+      subst (λ (x : LiveState). ChangesBy (resends x.time event ∷ []) x new) e at,
+    )
+
+-- one more of these steps at the same time
+pub more-made : (step : ℕ → Event → Step) (xs : List Event) (i : ℕ) (event : Event) (first old new : LiveState) → i < length xs → event ≡ get_or xs i event
+    → ChangesBy (map (step first.time) (take i xs)) first old → ChangesBy (step old.time event ∷ []) old new → ChangesBy (map (step first.time) (take (i + 1) xs)) first new
+more-made step xs i event first old new within is before one =
+    let again : ChangesBy (step first.time event ∷ []) old new = subst (λ (now : ℕ). ChangesBy (step now event ∷ []) old new) before.time one in
+    let all = makes-then _ _ _ _ _ before again in
+    let more : take (i + 1) xs ≡ take i xs ++ event ∷ [] = take_more xs i event within ∙ ap (λ (x : Event). take i xs ++ x ∷ []) (sym is) in
+    let steps : map (step first.time) (take (i + 1) xs) ≡ map (step first.time) (take i xs) ++ step first.time event ∷ [] =
+    ap (map (step first.time)) more ∙ map-append (step first.time) (take i xs) (event ∷ []) in
+    subst (λ (l : List Step). ChangesBy l first new) (sym steps) all
 
 -- the first events, and one more
 pub sends-next : (xs : List Event) (i : ℕ) (event : Event) (first old new : LiveState) → i < length xs → event ≡ get_or xs i event
-    → Makes (sending first.time (take i xs)) first old → Makes (sends old.time event ∷ []) old new → Makes (sending first.time (take (i + 1) xs)) first new
-sends-next xs i event first old new within is before one =
-    let again : Makes (sends first.time event ∷ []) old new = subst (λ (now : ℕ). Makes (sends now event ∷ []) old new) before.time one in
-    let all = makes-then _ _ _ _ _ before again in
-    let more : take (i + 1) xs ≡ take i xs ++ event ∷ [] = take_more xs i event within ∙ ap (λ (x : Event). take i xs ++ x ∷ []) (sym is) in
-    let steps : sending first.time (take (i + 1) xs) ≡ sending first.time (take i xs) ++ sends first.time event ∷ [] =
-    ap (sending first.time) more ∙ map-append (sends first.time) (take i xs) (event ∷ []) in
-    subst (λ (l : List BodyStep). Makes l first new) (sym steps) all
+    → ChangesBy (sending first.time (take i xs)) first old → ChangesBy (sends old.time event ∷ []) old new → ChangesBy (sending first.time (take (i + 1) xs)) first new
+sends-next xs i event first old new within is before one = more-made (λ now e. sends now e) xs i event first old new within is before one
 
 -- the update at an index was sent again after those before it
 pub resends-next : (i : ℕ) (first old new : LiveState) → old.master ≡ first.master
-    → Makes (sending first.time (take i (unacknowledged first.master))) first old → Resends i true old new
-    → Makes (sending first.time (take (i + 1) (unacknowledged first.master))) first new
+    → ChangesBy (resending first.time (take i (unacknowledged first.master))) first old → Resends i true old new
+    → ChangesBy (resending first.time (take (i + 1) (unacknowledged first.master))) first new
 resends-next i first old new same before (event, there, one) =
     let xs = unacknowledged first.master in
     let is : slice_get xs i ≡ Some event = subst (λ (m : MasterState). slice_get (unacknowledged m) i ≡ Some event) same there in
-    sends-next xs i event first old new (slice_get_within xs i event is) (sym (get_or_from_slice_get xs i event event is)) before one
+    more-made (λ now e. resends now e) xs i event first old new (slice_get_within xs i event is) (sym (get_or_from_slice_get xs i event event is)) before one
 
 -- the same by whether an update was found
 pub resends-on : (found : Bool) (i : ℕ) (first old new : LiveState) → found ≡ true → is_some first.master.stream ≡ true → old.master ≡ first.master
-    → Makes (sending first.time (take i (unacknowledged first.master))) first old → (is_some old.master.stream ≡ true → Resends i found old new)
-    → Makes (sending first.time (take (i + 1) (unacknowledged first.master))) first new
+    → ChangesBy (resending first.time (take i (unacknowledged first.master))) first old → (is_some old.master.stream ≡ true → Resends i found old new)
+    → ChangesBy (resending first.time (take (i + 1) (unacknowledged first.master))) first new
 resends-on true i first old new is on same before again = resends-next i first old new same before (again (ap (λ (m : MasterState). is_some m.stream) same ∙ on))
 resends-on false i first old new is on same before again = absurd (cc)
 
 -- all events were sent
-pub sends-all : (xs : List Event) (i : ℕ) (first new : LiveState) → length xs ≤ i → Makes (sending first.time (take i xs)) first new → Makes (sending first.time xs) first new
-sends-all xs i first new beyond before =
-    subst (λ (steps : List BodyStep). Makes steps first new) (ap (sending first.time) (take_all i xs beyond)) before
+pub sends-all : (step : ℕ → Event → Step) (xs : List Event) (i : ℕ) (first new : LiveState) → length xs ≤ i → ChangesBy (map (step first.time) (take i xs)) first new
+    → ChangesBy (map (step first.time) xs) first new
+sends-all step xs i first new beyond before =
+    subst (λ (steps : List Step). ChangesBy steps first new) (ap (map (step first.time)) (take_all i xs beyond)) before
 
 -- ---- the beginning of a stream
 
 -- the stream before was ended by an ERROR
 pub replaces : (stream : Option (List ℕ)) (id message : List ℕ) (a b c : LiveState) → stream ≡ Some id → message ≡ codes "Framework failed over"
-    → Pushes (Error (record { message = message })) a b → c.out ≡ cleared b.out → c.time ≡ b.time → Makes (replacing a.time stream) a c
-replaces stream id message a b c is says pushes ends time =
-    let sent : Makes (sends a.time (Error (record { message = codes "Framework failed over" })) ∷ []) a b =
-    subst (λ (m : List ℕ). Makes (sends a.time (Error (record { message = m })) ∷ []) a b) says (pushed-makes _ a a b refl refl pushes) in
-    subst (λ (s : Option (List ℕ)). Makes (replacing a.time s) a c) (sym is) (makes-then _ _ a b c sent (cleared-makes b c ends time))
+    → Pushes (Error (record { message = message })) a b → ChangesBy (clears ∷ []) b c → ChangesBy (replacing a.time stream) a c
+replaces stream id message a b c is says pushes ends =
+    let sent : ChangesBy (sends a.time (Error (record { message = codes "Framework failed over" })) ∷ []) a b =
+    subst (λ (m : List ℕ). ChangesBy (sends a.time (Error (record { message = m })) ∷ []) a b) says (pushed-makes _ a b pushes) in
+    subst (λ (s : Option (List ℕ)). ChangesBy (replacing a.time s) a c) (sym is) (makes-then _ _ a b c sent ends)
 
 -- there was no stream before
-pub clears-first : (stream : Option (List ℕ)) (a b : LiveState) → stream ≡ None → b.out ≡ cleared a.out → b.time ≡ a.time → Makes (replacing a.time stream) a b
-clears-first stream a b is clear time = subst (λ (s : Option (List ℕ)). Makes (replacing a.time s) a b) (sym is) (cleared-makes a b clear time)
+pub clears-first : (stream : Option (List ℕ)) (a b : LiveState) → stream ≡ None → ChangesBy (clears ∷ []) a b → ChangesBy (replacing a.time stream) a b
+clears-first stream a b is ends = subst (λ (s : Option (List ℕ)). ChangesBy (replacing a.time s) a b) (sym is) ends
 
-pub stream-begins : (stream : Option (List ℕ)) (events : List Event) (s0 s1 s2 s3 s4 : LiveState) (o : BodyState) → Makes (replacing s0.time stream) s0 s1
-    → Makes (sending s1.time events) s1 s2 → Makes (beats ∷ []) s2 s3 → Makes (sending s3.time (unacknowledged s3.master)) s3 s4 → s3.master ≡ s0.master → StepsTo IsSending s4.out o
-    → BeginsWith (replacing s0.time stream ++ beginning s0.time events (unacknowledged s0.master)) s0.out o
-stream-begins stream events s0 s1 s2 s3 s4 o ended sent beat again same after =
-    let first : Makes (sending s0.time events) s1 s2 = subst (λ (now : ℕ). Makes (sending now events) s1 s2) ended.time sent in
+pub stream-begins : (stream : Option (List ℕ)) (events : List Event) (s0 s1 s2 s3 s4 s5 : LiveState) → ChangesBy (replacing s0.time stream) s0 s1
+    → ChangesBy (sending s1.time events) s1 s2 → ChangesBy (beats ∷ []) s2 s3 → ChangesBy (resending s3.time (unacknowledged s3.master)) s3 s4 → s3.master ≡ s0.master → StepsTo IsSending s4 s5
+    → BeginsWith (replacing s0.time stream ++ beginning s0.time events (unacknowledged s0.master)) s0 s5
+stream-begins stream events s0 s1 s2 s3 s4 s5 ended sent beat again same after =
+    let first : ChangesBy (sending s0.time events) s1 s2 = subst (λ (now : ℕ). ChangesBy (sending now events) s1 s2) ended.time sent in
     let time : s3.time ≡ s0.time = beat.time ∙ sent.time ∙ ended.time in
-    let last : Makes (sending s0.time (unacknowledged s0.master)) s3 s4 =
-    subst (λ (m : MasterState). Makes (sending s0.time (unacknowledged m)) s3 s4) same (subst (λ (now : ℕ). Makes (sending now (unacknowledged s3.master)) s3 s4) time again) in
-    let begins : Makes (beginning s0.time events (unacknowledged s0.master)) s1 s4 = makes-then _ _ s1 s2 s4 first (makes-then _ _ s2 s3 s4 beat last) in
+    let last : ChangesBy (resending s0.time (unacknowledged s0.master)) s3 s4 =
+    subst (λ (m : MasterState). ChangesBy (resending s0.time (unacknowledged m)) s3 s4) same (subst (λ (now : ℕ). ChangesBy (resending now (unacknowledged s3.master)) s3 s4) time again) in
+    let begins : ChangesBy (beginning s0.time events (unacknowledged s0.master)) s1 s4 = makes-then _ _ s1 s2 s4 first (makes-then _ _ s2 s3 s4 beat last) in
     let all = makes-then _ _ s0 s1 s4 ended begins in
-    record { rest = after.steps; sending = after.allowed; leads = leads-then s0.out s4.out o _ after.steps all.leads after.leads }
+    record { rest = after.steps; sending = after.allowed; leads = leads-then s0 s4 s5 _ after.steps all.leads after.leads }
 
-pub begins-then : (steps : List BodyStep) (a b c : BodyState) → BeginsWith steps a b → StepsTo IsSending b c → BeginsWith steps a c
+pub begins-then : (steps : List Step) (a b c : LiveState) → BeginsWith steps a b → StepsTo IsSending b c → BeginsWith steps a c
 begins-then steps a b c begins after = record {
   rest = begins.rest ++ after.steps;
   sending = all_append IsSending begins.rest after.steps begins.sending after.allowed;
   leads =
-      subst (λ (all : List BodyStep). Leads a all c) (append_assoc steps begins.rest after.steps)
+      subst (λ (all : List Step). Leads a all c) (append_assoc steps begins.rest after.steps)
       (leads-then a b c (steps ++ begins.rest) after.steps begins.leads after.leads);
 }
 
 -- the steps of a new stream are those of a call
-pub begins-steps : (steps : List BodyStep) (a b : BodyState) → AllByRecursion IsOfCall steps → BeginsWith steps a b → StepsTo IsOfCall a b
-begins-steps steps a b allowed begins =
-    let rest = all-wider sending-of-call begins.rest begins.sending in
-    record { steps = steps ++ begins.rest; allowed = all_append IsOfCall steps begins.rest allowed rest; leads = begins.leads }
+pub begins-steps : (call : Call) (steps : List Step) (a b : LiveState) → AllByRecursion (IsOfCall call) steps → BeginsWith steps a b → StepsTo (IsOfCall call) a b
+begins-steps call steps a b allowed begins =
+    let rest = all-wider (sending-of-call call) begins.rest begins.sending in
+    record { steps = steps ++ begins.rest; allowed = all_append (IsOfCall call) steps begins.rest allowed rest; leads = begins.leads }
 
-replacing-allowed : (stream : Option (List ℕ)) (now : ℕ) → AllByRecursion IsOfCall (replacing now stream)
-replacing-allowed None now = (tt, tt)
-replacing-allowed (Some id) now = (tt, (tt, tt))
+replacing-allowed : (call : Call) (stream : Option (List ℕ)) (now : ℕ) → AllByRecursion (IsOfCall call) (replacing now stream)
+replacing-allowed call None now = (tt, tt)
+replacing-allowed call (Some id) now = (tt, (tt, tt))
 
-pub beginning-allowed : (stream : Option (List ℕ)) (now from : ℕ) (events updates : List Event) → AllByRecursion IsOfCall (replacing now stream ++ beginning from events updates)
-beginning-allowed stream now from events updates =
-    let sent = sending-allowed IsOfCall (λ n e. tt) from events in
-    all_append IsOfCall (replacing now stream) (beginning from events updates) (replacing-allowed stream now)
-    (all_append IsOfCall (sending from events) (beats ∷ sending from updates) sent (tt, sending-allowed IsOfCall (λ n e. tt) from updates))
+resending-allowed : (call : Call) (now : ℕ) (updates : List Event) → AllByRecursion (IsOfCall call) (resending now updates)
+resending-allowed call now [] = tt
+resending-allowed call now (event ∷ events) = (tt, resending-allowed call now events)
+
+pub beginning-allowed : (call : Call) (stream : Option (List ℕ)) (now from : ℕ) (events updates : List Event) → AllByRecursion NeedsNone events
+    → AllByRecursion (IsOfCall call) (replacing now stream ++ beginning from events updates)
+beginning-allowed call stream now from events updates all =
+    let sent = sending-allowed (IsOfCall call) (λ n e k. k) from events all in
+    all_append (IsOfCall call) (replacing now stream) (beginning from events updates) (replacing-allowed call stream now)
+    (all_append (IsOfCall call) (sending from events) (beats ∷ resending from updates) sent (tt, resending-allowed call from updates))
 
 -- ---- SUBSCRIBE
 
@@ -188,31 +219,39 @@ subscribes m n call given status events is ok answer =
     handled-is (m.down || not (agrees m.framework (framework_of call))) m n call given events is (subst (λ (x : ℕ). IsAnswer (handled m call given) x events n) ok answer)
 
 -- the steps of a new stream are those of `opening`
-pub opens-by : (old mid : LiveState) (new : BodyState) (stream : Option (List ℕ)) (events : List Event) → mid.out ≡ old.out → mid.time ≡ old.time
+pub opens-by : (old mid new : LiveState) (stream : Option (List ℕ)) (events : List Event) → mid ≡ record old { master = mid.master }
     → stream ≡ old.master.stream → Subscribes old.master events mid.master
-    → BeginsWith (replacing mid.time stream ++ beginning mid.time events (unacknowledged mid.master)) mid.out new → BeginsWith (opening old) old.out new
-opens-by old mid new stream events body time is by begins =
+    → BeginsWith (replacing mid.time stream ++ beginning mid.time events (unacknowledged mid.master)) mid new → BeginsWith (opening old) old new
+opens-by old mid new stream events rest is by begins =
+    let time : mid.time ≡ old.time = ap (λ (x : LiveState). x.time) rest in
     let all : replacing mid.time stream ++ beginning mid.time events (unacknowledged mid.master) ≡ opening old =
     ap (λ (s : Option (List ℕ)). replacing mid.time s ++ beginning mid.time events (unacknowledged mid.master)) is
     ∙ ap (λ (now : ℕ). replacing now old.master.stream ++ beginning now events (unacknowledged mid.master)) time
     ∙ ap (λ (l : List Event). replacing old.time old.master.stream ++ beginning old.time l (unacknowledged mid.master)) by.events_are
     ∙ ap (λ (l : List Event). replacing old.time old.master.stream ++ beginning old.time (subscribed_event old.master.framework old.master.interval ∷ []) l) by.same in
-    subst (λ (x : BodyState). BeginsWith (opening old) x new) body (subst (λ (steps : List BodyStep). BeginsWith steps mid.out new) all begins)
+    let at = subst (λ (steps : List Step). BeginsWith steps mid new) all begins in
+    let all_same : Same old mid = same-by old mid (record old { master = mid.master }) rest refl refl refl in
+    record { rest = at.rest; sending = at.sending; leads = leads-from old mid new _ all_same at.leads }
 
 -- ---- by the id of the stream that was opened
 
-pub opens-new : (opened : Option (List ℕ)) (old : LiveState) (new : BodyState) → BeginsWith (opening old) old.out new → OpensIf opened old new
-opens-new None old new begins = tt
-opens-new (Some id) old new begins = begins
+pub opens-new : (opened : Option (List ℕ)) (m : MasterState) (old new : LiveState) → opened ≡ m.stream → BeginsWith (opening old) old new → OpensIf opened m old new
+opens-new None m old new is begins = tt
+opens-new (Some id) m old new is begins = (sym is, begins)
 
-pub opens-none : (opened : Option (List ℕ)) (old : LiveState) (new : BodyState) → opened ≡ None → OpensIf opened old new
-opens-none opened old new e = subst (λ (x : Option (List ℕ)). OpensIf x old new) (sym e) tt
+pub opens-none : (opened : Option (List ℕ)) (m : MasterState) (old new : LiveState) → opened ≡ None → OpensIf opened m old new
+opens-none opened m old new e = subst (λ (x : Option (List ℕ)). OpensIf x m old new) (sym e) tt
 
-pub opens-then : (opened : Option (List ℕ)) (old : LiveState) (mid new : BodyState) → OpensIf opened old mid → StepsTo IsSending mid new → OpensIf opened old new
-opens-then None old mid new opens after = tt
-opens-then (Some id) old mid new opens after = begins-then (opening old) old.out mid new opens after
+pub opens-then : (opened : Option (List ℕ)) (m : MasterState) (old mid new : LiveState) → OpensIf opened m old mid → StepsTo IsSending mid new → OpensIf opened m old new
+opens-then None m old mid new opens after = tt
+opens-then (Some id) m old mid new (is, begins) after = (is, begins-then (opening old) old mid new begins after)
+
+-- the body, the tasks and the waiting events are the same from `mid` on
+pub opens-to : (opened : Option (List ℕ)) (m : MasterState) (old mid new : LiveState) → Same mid new → OpensIf opened m old mid → OpensIf opened m old new
+opens-to None m old mid new same opens = tt
+opens-to (Some id) m old mid new same (is, begins) = (is, record { rest = begins.rest; sending = begins.sending; leads = leads-to old mid new _ same begins.leads })
 
 -- a call that opens no stream
-pub if-plain : {E : Type 0} (result : Result Reply E) (old : LiveState) (new : BodyState) → IfOk result (λ reply. reply.opened ≡ None) → IfOk result (λ reply. OpensIf reply.opened old new)
-if-plain (Ok reply) old new is = opens-none reply.opened old new is
-if-plain (Err why) old new is = tt
+pub if-plain : {E : Type 0} (result : Result Reply E) (m : MasterState) (old new : LiveState) → IfOk result (λ reply. reply.opened ≡ None) → IfOk result (λ reply. OpensIf reply.opened m old new)
+if-plain (Ok reply) m old new is = opens-none reply.opened m old new is
+if-plain (Err why) m old new is = tt

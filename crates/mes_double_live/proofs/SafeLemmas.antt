@@ -7,7 +7,7 @@ use Rattle.mes_double_master.specs.Sending.{Sends, offers_sent, rescind_sent, up
 use Rattle.mes_double_master.specs.Runs.{master_with, Deed, Past, after_sending, after}
 use Rattle.mes_double_master.specs.Runs.Deed.{handles, offers, rescinds, updates, resends, breaks}
 use Rattle.mes_double_master.proofs.RunLemmas.{launched-once, taken-once}
-use Rattle.mes_double_live.specs.Moving.{LaunchFits, DeedFits, past_at, after_deed, Leads, Moves, IsSafe}
+use Rattle.mes_double_live.specs.Moving.{LaunchFits, DeedFits, past_at, after_deed, DeedsLead, Moves, IsSafe}
 
 sending-master : (past : Past) (sends : Sends) → (after_sending (past_at past.master) sends).master ≡ (after_sending past sends).master
 sending-master past (Ok sent) = refl
@@ -22,14 +22,14 @@ after-master past (updates status) = sending-master past (update_sent past.maste
 after-master past (resends index) = sending-master past (resend_sent past.master index)
 after-master past breaks = refl
 
-next : (past : Past) (deed : Deed) (deeds : List Deed) (n : MasterState) → Leads past.master (deed ∷ deeds) n → Leads (after past deed).master deeds n
-next past deed deeds n leads = subst (λ (m : MasterState). Leads m deeds n) (after-master past deed) leads.1
+next : (past : Past) (deed : Deed) (deeds : List Deed) (n : MasterState) → DeedsLead past.master (deed ∷ deeds) n → DeedsLead (after past deed).master deeds n
+next past deed deeds n leads = subst (λ (m : MasterState). DeedsLead m deeds n) (after-master past deed) leads.1
 
-ends : (past : Past) (deeds : List Deed) (n : MasterState) → Leads past.master deeds n → n ≡ (fold after past deeds).master
+ends : (past : Past) (deeds : List Deed) (n : MasterState) → DeedsLead past.master deeds n → n ≡ (fold after past deeds).master
 ends past [] n leads = leads
 ends past (deed ∷ deeds) n leads = ends (after past deed) deeds n (next past deed deeds n leads)
 
-each-fits : (past : Past) (deeds : List Deed) (n : MasterState) → Leads past.master deeds n
+each-fits : (past : Past) (deeds : List Deed) (n : MasterState) → DeedsLead past.master deeds n
     → (i : ℕ) (call : Call) (stream : Option (List ℕ)) → slice_get deeds i ≡ Some (handles call stream) → LaunchFits (fold after past (take i deeds)).master call stream
 each-fits past [] n leads i call stream at = absurd (let none : None ≡ Some (handles call stream) = at in cc)
 each-fits past (deed ∷ deeds) n leads zero call stream at = (let same : deed ≡ handles call stream = cc in subst (DeedFits past.master) same leads.0)

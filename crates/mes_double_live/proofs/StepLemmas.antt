@@ -1,140 +1,248 @@
--- How steps of a body follow one another, and that each change of a body is a step.
-use Rattle.std.proofs.Common.{◌≡◌, ℕ, ◌==◌, if◌then◌else◌, List, [], ◌∷◌, ◌++◌, Bool, true, false, Option, Some, None, Result, take, take-append-drop, refl, sym, ap, subst}
+-- How steps follow one another, and that each change of a body or of tasks is a step.
+use Rattle.std.proofs.Common.{◌≡◌, ◌∙◌, ℕ, ◌==◌, if◌then◌else◌, List, [], ◌∷◌, ◌++◌, Bool, true, false, Option, Some, None, Result, take, take-append-drop, refl, sym, ap, subst}
 use Rattle.std.specs.List.{AllByRecursion}
 use Rattle.mes_frame.proofs.Chunks.{all_append}
 use Rattle.std.specs.Result.{OnOk}
 use Rattle.std.proofs.lemmas.Result.{on_ok_weaker}
 use Rattle.mes_msg.specs.Event.{Event}
-use Rattle.mes_msg.specs.Event.TheVariants.{Heartbeat}
+use Rattle.mes_msg.specs.Event.TheVariants.{Other}
+use Rattle.mes_double_cluster.specs.declared.task.Task.{Task}
 use Rattle.mes_double_faults.specs.declared.fault.CallFault.{CallFault}
 use Rattle.mes_double_faults.specs.declared.fault.Fault.TheVariants as planned
-use Rattle.mes_double_live.specs.Bodies.{BodyState, cleared, released, written, Obeys, Beats}
-use Rattle.mes_double_live.specs.Lives.{LiveState, Pushes, planned_fault, next_call, noted_by, noted, call_counted}
-use Rattle.mes_double_live.specs.BodySteps.{BodyStep, StepsBody, Leads, StepsTo, IsOfCall, IsOfTime, IsSending, IsTaking, record_of}
-use Rattle.mes_double_live.specs.BodySteps.BodyStep.{sends, beats, obeys, releases, goes, clears, notes, takes}
+use Rattle.mes_double_live.specs.Bodies.{BodyState, written, Obeys, Sends}
+use Rattle.mes_double_live.specs.Lives.{LiveState, Pushes, with_first, planned_fault, next_call, noted_by, noted, call_counted, record_of}
+use Rattle.mes_double_live.specs.Steps.{Step, StepsBody, StepsTasks, StepsWaiting, LeadsBody, LeadsTasks, LeadsWaiting, Leads, StepsTo, NeedsNone, IsSending, IsResending, IsEnding, IsNoting, IsOfTime, IsTaking}
+use Rattle.mes_double_live.specs.Steps.Step.{sends, resends, relays, reports, beats, obeys, waits, drops, releases, goes, clears, notes, takes, launches, acknowledges, kills, forgets}
 
-pub leads-then : (a b c : BodyState) (before steps : List BodyStep) → Leads a before b → Leads b steps c → Leads a (before ++ steps) c
-leads-then a b c [] steps first next = subst (λ (x : BodyState). Leads x steps c) first next
-leads-then a b c (step ∷ before) steps (mid, is, rest) next = (mid, is, leads-then mid b c before steps rest next)
+-- ---- steps that follow one another
 
-pub steps-same : {P : BodyStep → Type 0} (old new : BodyState) → new ≡ old → StepsTo P old new
-steps-same old new e = record { steps = []; allowed = tt; leads = e }
+pub body-then : (a b c : BodyState) (before steps : List Step) → LeadsBody a before b → LeadsBody b steps c → LeadsBody a (before ++ steps) c
+body-then a b c [] steps first next = subst (λ (x : BodyState). LeadsBody x steps c) first next
+body-then a b c (step ∷ before) steps (mid, is, rest) next = (mid, is, body-then mid b c before steps rest next)
 
-pub steps-then : {P : BodyStep → Type 0} (a b c : BodyState) → StepsTo P a b → StepsTo P b c → StepsTo P a c
+pub tasks-then : (a b c : List Task) (before steps : List Step) → LeadsTasks a before b → LeadsTasks b steps c → LeadsTasks a (before ++ steps) c
+tasks-then a b c [] steps first next = subst (λ (x : List Task). LeadsTasks x steps c) first next
+tasks-then a b c (step ∷ before) steps (mid, is, rest) next = (mid, is, tasks-then mid b c before steps rest next)
+
+pub waiting-then : (a b c : List Event) (before steps : List Step) → LeadsWaiting a before b → LeadsWaiting b steps c → LeadsWaiting a (before ++ steps) c
+waiting-then a b c [] steps first next = subst (λ (x : List Event). LeadsWaiting x steps c) first next
+waiting-then a b c (step ∷ before) steps (mid, is, rest) next = (mid, is, waiting-then mid b c before steps rest next)
+
+pub leads-then : (a b c : LiveState) (before steps : List Step) → Leads a before b → Leads b steps c → Leads a (before ++ steps) c
+leads-then a b c before steps first next = record {
+  body = body-then a.out b.out c.out before steps first.body next.body;
+  tasks = tasks-then a.cluster.tasks b.cluster.tasks c.cluster.tasks before steps first.tasks next.tasks;
+  waiting = waiting-then a.waiting b.waiting c.waiting before steps first.waiting next.waiting;
+}
+
+pub leads-one : (step : Step) (a b : LiveState) → StepsBody step a.out b.out → StepsTasks step a.cluster.tasks b.cluster.tasks → StepsWaiting step a.waiting b.waiting → Leads a (step ∷ []) b
+leads-one step a b body tasks waiting = record { body = (b.out, body, refl); tasks = (b.cluster.tasks, tasks, refl); waiting = (b.waiting, waiting, refl) }
+
+-- two states have the same body, the same tasks and the same waiting events
+pub record Same (a b : LiveState) : Type 0 where
+  pub body : b.out ≡ a.out
+  pub tasks : b.cluster.tasks ≡ a.cluster.tasks
+  pub waiting : b.waiting ≡ a.waiting
+
+pub same : (a b : LiveState) → b ≡ a → Same a b
+same a b e = record { body = ap (λ (x : LiveState). x.out) e; tasks = ap (λ (x : LiveState). x.cluster.tasks) e; waiting = ap (λ (x : LiveState). x.waiting) e }
+
+-- `m` is the view of the fields of a live test master of the value `a`, or what a call left
+pub same-view : (a b m : LiveState) → m ≡ a → b.out ≡ m.out → b.cluster.tasks ≡ m.cluster.tasks → b.waiting ≡ m.waiting → Same a b
+same-view a b m e body tasks waiting = let is = same a m e in record { body = body ∙ is.body; tasks = tasks ∙ is.tasks; waiting = waiting ∙ is.waiting }
+
+pub same-by : (a b m : LiveState) → b ≡ m → m.out ≡ a.out → m.cluster.tasks ≡ a.cluster.tasks → m.waiting ≡ a.waiting → Same a b
+same-by a b m e body tasks waiting = let is = same m b e in record { body = is.body ∙ body; tasks = is.tasks ∙ tasks; waiting = is.waiting ∙ waiting }
+
+pub same-then : (a b c : LiveState) → Same a b → Same b c → Same a c
+same-then a b c first next = record { body = next.body ∙ first.body; tasks = next.tasks ∙ first.tasks; waiting = next.waiting ∙ first.waiting }
+
+pub leads-from : (a b c : LiveState) (steps : List Step) → Same a b → Leads b steps c → Leads a steps c
+leads-from a b c steps e all = record {
+  body = subst (λ (x : BodyState). LeadsBody x steps c.out) e.body all.body;
+  tasks = subst (λ (x : List Task). LeadsTasks x steps c.cluster.tasks) e.tasks all.tasks;
+  waiting = subst (λ (x : List Event). LeadsWaiting x steps c.waiting) e.waiting all.waiting;
+}
+
+pub leads-to : (a b c : LiveState) (steps : List Step) → Same b c → Leads a steps b → Leads a steps c
+leads-to a b c steps e all = record {
+  body = subst (LeadsBody a.out steps) (sym e.body) all.body;
+  tasks = subst (LeadsTasks a.cluster.tasks steps) (sym e.tasks) all.tasks;
+  waiting = subst (LeadsWaiting a.waiting steps) (sym e.waiting) all.waiting;
+}
+
+pub steps-same : {P : Step → Type 0} (a b : LiveState) → Same a b → StepsTo P a b
+steps-same a b e = record { steps = []; allowed = tt; leads = record { body = e.body; tasks = e.tasks; waiting = e.waiting } }
+
+pub steps-then : {P : Step → Type 0} (a b c : LiveState) → StepsTo P a b → StepsTo P b c → StepsTo P a c
 steps-then {P} a b c first next = record {
   steps = first.steps ++ next.steps;
   allowed = all_append P first.steps next.steps first.allowed next.allowed;
   leads = leads-then a b c first.steps next.steps first.leads next.leads;
 }
 
-pub all-wider : {P Q : BodyStep → Type 0} → ((step : BodyStep) → P step → Q step) → (steps : List BodyStep) → AllByRecursion P steps → AllByRecursion Q steps
+pub all-wider : {P Q : Step → Type 0} → ((step : Step) → P step → Q step) → (steps : List Step) → AllByRecursion P steps → AllByRecursion Q steps
 all-wider up [] all = tt
 all-wider up (step ∷ steps) all = (up step all.0, all-wider up steps all.1)
 
-pub steps-wider : {P Q : BodyStep → Type 0} → ((step : BodyStep) → P step → Q step) → (a b : BodyState) → StepsTo P a b → StepsTo Q a b
+pub steps-wider : {P Q : Step → Type 0} → ((step : Step) → P step → Q step) → (a b : LiveState) → StepsTo P a b → StepsTo Q a b
 steps-wider up a b all = record { steps = all.steps; allowed = all-wider up all.steps all.allowed; leads = all.leads }
 
--- the body is the same up to `b`
-pub steps-from : {P : BodyStep → Type 0} (a b c : BodyState) → b ≡ a → StepsTo P b c → StepsTo P a c
-steps-from {P} a b c e all = subst (λ (x : BodyState). StepsTo P x c) e all
+pub steps-from : {P : Step → Type 0} (a b c : LiveState) → Same a b → StepsTo P b c → StepsTo P a c
+steps-from a b c e all = record { steps = all.steps; allowed = all.allowed; leads = leads-from a b c all.steps e all.leads }
 
--- the body is the same from `b` on
-pub steps-to : {P : BodyStep → Type 0} (a b c : BodyState) → c ≡ b → StepsTo P a b → StepsTo P a c
-steps-to {P} a b c e all = subst (StepsTo P a) (sym e) all
+pub steps-to : {P : Step → Type 0} (a b c : LiveState) → Same b c → StepsTo P a b → StepsTo P a c
+steps-to a b c e all = record { steps = all.steps; allowed = all.allowed; leads = leads-to a b c all.steps e all.leads }
 
 -- steps, and then what a last call does if it succeeds
-pub steps-last : {P : BodyStep → Type 0} {T E : Type 0} (result : Result T E) (a b c : BodyState) → StepsTo P a b → OnOk result (StepsTo P b c) → OnOk result (StepsTo P a c)
+pub steps-last : {P : Step → Type 0} {T E : Type 0} (result : Result T E) (a b c : LiveState) → StepsTo P a b → OnOk result (StepsTo P b c) → OnOk result (StepsTo P a c)
 steps-last result a b c first last = on_ok_weaker result (steps-then a b c first) last
 
--- the body is the same up to `b`, and a last call does this if it succeeds
-pub steps-after : (P : BodyStep → Type 0) {T E : Type 0} (result : Result T E) (a b c : BodyState) → b ≡ a → OnOk result (StepsTo P b c) → OnOk result (StepsTo P a c)
+-- the body and the tasks are the same up to `b`, and a last call does this if it succeeds
+pub steps-after : (P : Step → Type 0) {T E : Type 0} (result : Result T E) (a b c : LiveState) → Same a b → OnOk result (StepsTo P b c) → OnOk result (StepsTo P a c)
 steps-after P result a b c e last = on_ok_weaker result (steps-from a b c e) last
 
--- ---- the steps of a call, and of the time
+pub steps-one : {P : Step → Type 0} (step : Step) (a b : LiveState) → P step → Leads a (step ∷ []) b → StepsTo P a b
+steps-one step a b may leads = record { steps = step ∷ []; allowed = (may, tt); leads = leads }
 
-pub sending-of-call : (step : BodyStep) → IsSending step → IsOfCall step
-sending-of-call (sends now event) is = tt
-sending-of-call beats is = tt
-sending-of-call (obeys name) is = tt
-sending-of-call (releases now) is = is
-sending-of-call (goes bytes) is = is
-sending-of-call clears is = tt
-sending-of-call (notes fault) is = tt
-sending-of-call takes is = is
+-- ---- what is allowed
 
-pub of-call : (a b : BodyState) → StepsTo IsSending a b → StepsTo IsOfCall a b
-of-call a b all = steps-wider sending-of-call a b all
+pub wider-last : {P Q : Step → Type 0} → ((step : Step) → P step → Q step) → {T E : Type 0} (result : Result T E) (a b : LiveState) → OnOk result (StepsTo P a b) → OnOk result (StepsTo Q a b)
+wider-last up result a b last = on_ok_weaker result (steps-wider up a b) last
 
-pub of-call-last : {T E : Type 0} (result : Result T E) (a b : BodyState) → OnOk result (StepsTo IsSending a b) → OnOk result (StepsTo IsOfCall a b)
-of-call-last result a b last = on_ok_weaker result (of-call a b) last
+pub sending-of-end : (step : Step) → IsSending step → IsEnding step
+sending-of-end (sends now event) is = is
+sending-of-end (resends now event) is = is
+sending-of-end (relays now event) is = is
+sending-of-end (reports now index update finishes status) is = is
+sending-of-end beats is = is
+sending-of-end (obeys name) is = is
+sending-of-end (waits event) is = is
+sending-of-end (drops event) is = is
+sending-of-end (releases now) is = is
+sending-of-end (goes bytes) is = is
+sending-of-end clears is = tt
+sending-of-end (notes fault) is = is
+sending-of-end takes is = is
+sending-of-end (launches launch tasks) is = is
+sending-of-end (acknowledges body) is = is
+sending-of-end (kills id) is = is
+sending-of-end (forgets id) is = is
 
-sending-of-time : (time : ℕ) (step : BodyStep) → IsSending step → IsOfTime time step
-sending-of-time time (sends now event) is = tt
-sending-of-time time beats is = tt
-sending-of-time time (obeys name) is = tt
+pub sending-of-time : (time : ℕ) (step : Step) → IsSending step → IsOfTime time step
+sending-of-time time (sends now event) is = is
+sending-of-time time (resends now event) is = tt
+sending-of-time time (relays now event) is = is
+sending-of-time time (reports now index update finishes status) is = is
+sending-of-time time beats is = is
+sending-of-time time (obeys name) is = is
+sending-of-time time (waits event) is = is
+sending-of-time time (drops event) is = is
 sending-of-time time (releases now) is = absurd is
 sending-of-time time (goes bytes) is = is
 sending-of-time time clears is = is
 sending-of-time time (notes fault) is = is
 sending-of-time time takes is = is
+sending-of-time time (launches launch tasks) is = is
+sending-of-time time (acknowledges body) is = is
+sending-of-time time (kills id) is = is
+sending-of-time time (forgets id) is = is
 
--- bytes are released, events are sent, and then what a last call sends if it succeeds
-pub time-last : {T E : Type 0} (result : Result T E) (time : ℕ) (a b c d : BodyState) → StepsTo (IsOfTime time) a b → StepsTo IsSending b c → OnOk result (StepsTo IsSending c d) → OnOk result (StepsTo (IsOfTime time) a d)
-time-last result time a b c d first next last =
-    on_ok_weaker result (λ (rest : StepsTo IsSending c d). steps-then a b d first (steps-wider (sending-of-time time) b d (steps-then b c d next rest))) last
+pub resending-of-time : (time : ℕ) (step : Step) → IsResending step → IsOfTime time step
+resending-of-time time (sends now event) is = absurd is
+resending-of-time time (resends now event) is = tt
+resending-of-time time (relays now event) is = absurd is
+resending-of-time time (reports now index update finishes status) is = absurd is
+resending-of-time time beats is = absurd is
+resending-of-time time (obeys name) is = absurd is
+resending-of-time time (waits event) is = absurd is
+resending-of-time time (drops event) is = absurd is
+resending-of-time time (releases now) is = absurd is
+resending-of-time time (goes bytes) is = absurd is
+resending-of-time time clears is = absurd is
+resending-of-time time (notes fault) is = absurd is
+resending-of-time time takes is = absurd is
+resending-of-time time (launches launch tasks) is = absurd is
+resending-of-time time (acknowledges body) is = absurd is
+resending-of-time time (kills id) is = absurd is
+resending-of-time time (forgets id) is = absurd is
 
--- `t` is the view of the fields of a live test master of the value `s`; at the end its body is `o`
-pub stepped : {P : BodyStep → Type 0} (s t : LiveState) (n o : BodyState) → t ≡ s → o ≡ n → StepsTo P t.out n → StepsTo P s.out o
-stepped {P} s t n o e f all = subst (λ (b : BodyState). StepsTo P s.out b) (sym f) (subst (λ (x : LiveState). StepsTo P x.out n) e all)
-
-pub same-out : (s t : LiveState) → t ≡ s → t.out ≡ s.out
-same-out s t e = ap (λ (x : LiveState). x.out) e
+-- bytes are released, events are sent, updates sent again, and then what a last call sends if it succeeds
+pub time-last : {T E : Type 0} (result : Result T E) (time : ℕ) (a b c d e : LiveState) → StepsTo (IsOfTime time) a b → StepsTo IsSending b c → StepsTo IsResending c d
+    → OnOk result (StepsTo IsSending d e) → OnOk result (StepsTo (IsOfTime time) a e)
+time-last result time a b c d e first next again last =
+    let sent = steps-then a b c first (steps-wider (sending-of-time time) b c next) in
+    let resent = steps-then a c d sent (steps-wider (resending-of-time time) c d again) in
+    on_ok_weaker result (λ (rest : StepsTo IsSending d e). steps-then a d e resent (steps-wider (sending-of-time time) d e rest)) last
 
 -- ---- one step
 
-steps-by : {P : BodyStep → Type 0} (old new : BodyState) (step : BodyStep) → P step → StepsBody step old new → StepsTo P old new
-steps-by old new step may is = record { steps = step ∷ []; allowed = (may, tt); leads = (new, is, refl) }
+-- an event is sent by this step
+pub pushed-leads : (step : Step) (event : Event) (a b : LiveState) → Pushes event a b
+    → (Sends a.time a.out (record_of event) b.out → StepsBody step a.out b.out) → (b.cluster.tasks ≡ a.cluster.tasks → StepsTasks step a.cluster.tasks b.cluster.tasks)
+    → (b.waiting ≡ a.waiting → StepsWaiting step a.waiting b.waiting) → Leads a (step ∷ []) b
+pushed-leads step event a b pushes body tasks waiting =
+    leads-one step a b (body pushes.body) (tasks (ap (λ (x : LiveState). x.cluster.tasks) pushes.rest)) (waiting (ap (λ (x : LiveState). x.waiting) pushes.rest))
 
-pub pushed-steps : (event : Event) (old new : LiveState) → Pushes event old new → StepsTo IsSending old.out new.out
-pushed-steps event old new pushes = steps-by old.out new.out (sends old.time event) tt pushes.body
+pub sent-steps : {P : Step → Type 0} (event : Event) (a b : LiveState) → P (sends a.time event) → Pushes event a b → StepsTo P a b
+sent-steps event a b may pushes = steps-one (sends a.time event) a b may (pushed-leads (sends a.time event) event a b pushes (λ x. x) (λ x. x) (λ x. x))
 
--- steps, and then a last call that sends an event if it succeeds
-pub push-last : {T E : Type 0} (result : Result T E) (event : Event) (a : BodyState) (old new : LiveState) → StepsTo IsSending a old.out → OnOk result (Pushes event old new) → OnOk result (StepsTo IsSending a new.out)
-push-last result event a old new first last = on_ok_weaker result (λ (pushes : Pushes event old new). steps-then a old.out new.out first (pushed-steps event old new pushes)) last
+-- the first event that waited is sent
+pub relayed-steps : (event : Event) (a b : LiveState) → Pushes event a b → StepsTo IsSending (with_first event a) b
+relayed-steps event a b pushes =
+    let waiting : event ∷ a.waiting ≡ event ∷ b.waiting = ap (λ (x : LiveState). event ∷ x.waiting) (sym pushes.rest) in
+    steps-one (relays a.time event) (with_first event a) b tt
+    (leads-one (relays a.time event) (with_first event a) b pushes.body (ap (λ (x : LiveState). x.cluster.tasks) pushes.rest) waiting)
 
-beat-steps : (old new : BodyState) → Beats old (record_of Heartbeat) new → StepsTo IsSending old new
-beat-steps old new is = steps-by old new beats tt is
+pub resent-steps : (event : Event) (a b : LiveState) → Pushes event a b → StepsTo IsResending a b
+resent-steps event a b pushes = steps-one (resends a.time event) a b tt (pushed-leads (resends a.time event) event a b pushes (λ x. x) (λ x. x) (λ x. x))
 
-pub beat-last : {T E : Type 0} (result : Result T E) (s t : LiveState) (n o : BodyState) → t ≡ s → o ≡ n → OnOk result (Beats t.out (record_of Heartbeat) n) → OnOk result (StepsTo IsSending s.out o)
-beat-last result s t n o e f last = on_ok_weaker result (λ (is : Beats t.out (record_of Heartbeat) n). stepped s t n o e f (beat-steps t.out n is)) last
+-- steps, and then a last call that sends an event that requires no acknowledgement if it succeeds
+pub push-last : {T E : Type 0} (result : Result T E) (event : Event) (a b c : LiveState) → NeedsNone event → StepsTo IsSending a b → OnOk result (Pushes event b c)
+    → OnOk result (StepsTo IsSending a c)
+push-last result event a b c may first last = on_ok_weaker result (λ (pushes : Pushes event b c). steps-then a b c first (sent-steps event b c may pushes)) last
 
-pub obeyed-steps : (name : List ℕ) (old new : BodyState) (done : Bool) → Obeys name old new done → StepsTo IsSending old new
-obeyed-steps name old new true is = steps-by old new (obeys name) tt is
-obeyed-steps name old new false is = steps-same old new is.5
+-- the state is the same up to `b`, and a last call sends the first event that waited if it succeeds
+pub relay-last : {T E : Type 0} (result : Result T E) (event : Event) (a b c : LiveState) → b ≡ a → OnOk result (Pushes event b c) → OnOk result (StepsTo IsSending (with_first event a) c)
+relay-last result event a b c e last =
+    on_ok_weaker result (λ (pushes : Pushes event b c). subst (λ (x : LiveState). StepsTo IsSending (with_first event x) c) e (relayed-steps event b c pushes)) last
 
-pub released-steps : (time now : ℕ) (old new : BodyState) → now ≡ time → new ≡ released now old → StepsTo (IsOfTime time) old new
-released-steps time now old new same is = steps-by old new (releases now) same is
+-- the body, the tasks and the waiting events change by this step
+pub body-steps : {P : Step → Type 0} (step : Step) (a b : LiveState) → P step → StepsBody step a.out b.out → StepsTasks step a.cluster.tasks b.cluster.tasks → StepsWaiting step a.waiting b.waiting
+    → StepsTo P a b
+body-steps step a b may body tasks waiting = steps-one step a b may (leads-one step a b body tasks waiting)
 
-pub written-steps : (count : ℕ) (old new : BodyState) → new ≡ written count old → StepsTo IsTaking old new
-written-steps count old new is =
-    let bytes : StepsBody (goes (take count old.pending)) old (written count old) = (sym (take-append-drop count old.pending), refl) in
-    steps-to old (written count old) new is (steps-by old (written count old) (goes (take count old.pending)) tt bytes)
+obeyed-by : (name : List ℕ) (done : Bool) (a b : LiveState) → done ≡ true → Obeys name a.out b.out done → b.cluster.tasks ≡ a.cluster.tasks → b.waiting ≡ a.waiting
+    → StepsTo IsSending (with_first (Other name) a) b
+obeyed-by name true a b on is tasks waiting = body-steps (obeys name) (with_first (Other name) a) b tt is tasks (ap (λ (l : List Event). Other name ∷ l) (sym waiting))
+obeyed-by name false a b on is tasks waiting = absurd (cc)
 
-pub cleared-steps : (old new : BodyState) → new ≡ cleared old → StepsTo IsOfCall old new
-cleared-steps old new is = steps-by old new clears tt is
+-- What the first event that waited demands by its name was done. `t` is the view of the fields of a live
+-- test master of the value `s`.
+pub obeyed-steps : (event : Event) (name shown : List ℕ) (done : Bool) (s t u : LiveState) → event ≡ Other name → shown ≡ name → t ≡ s → done ≡ true → Obeys shown t.out u.out done
+    → u.cluster.tasks ≡ t.cluster.tasks → u.waiting ≡ t.waiting → StepsTo IsSending (with_first event s) u
+obeyed-steps event name shown done s t u is text view on by tasks waiting =
+    let obeyed : Obeys name t.out u.out done = subst (λ (n : List ℕ). Obeys n t.out u.out done) text by in
+    let of : StepsTo IsSending (with_first (Other name) s) u =
+    subst (λ (x : LiveState). StepsTo IsSending (with_first (Other name) x) u) view (obeyed-by name done t u on obeyed tasks waiting) in
+    subst (λ (e : Event). StepsTo IsSending (with_first e s) u) (sym is) of
 
-pub taken-steps : (old new : BodyState) → new ≡ record old { happened = [] } → StepsTo IsTaking old new
-taken-steps old new is = steps-by old new takes tt is
+pub written-steps : (count : ℕ) (a b : LiveState) → b.out ≡ written count a.out → b.cluster.tasks ≡ a.cluster.tasks → b.waiting ≡ a.waiting → StepsTo IsTaking a b
+written-steps count a b is tasks waiting =
+    let bytes : StepsBody (goes (take count a.out.pending)) a.out (written count a.out) = (sym (take-append-drop count a.out.pending), refl) in
+    body-steps (goes (take count a.out.pending)) a b tt (subst (StepsBody (goes (take count a.out.pending)) a.out) (sym is) bytes) tasks waiting
 
 -- ---- the planned faults
 
-noted-steps : (fault : Option CallFault) (number : ℕ) (old : BodyState) → StepsTo IsOfCall old (record old { happened = noted_by fault number old.happened })
-noted-steps None number old = steps-same old (record old { happened = old.happened }) refl
-noted-steps (Some fault) number old = steps-by old (record old { happened = noted_by (Some fault) number old.happened }) (notes (planned.Call number fault)) tt refl
+noted-steps : (fault : Option CallFault) (number : ℕ) (a b : LiveState) → b.out ≡ record a.out { happened = noted_by fault number a.out.happened } → b.cluster.tasks ≡ a.cluster.tasks
+    → b.waiting ≡ a.waiting → StepsTo IsNoting a b
+noted-steps None number a b is tasks waiting = steps-same a b (record { body = is; tasks = tasks; waiting = waiting })
+noted-steps (Some fault) number a b is tasks waiting = body-steps (notes (planned.Call number fault)) a b tt is tasks waiting
 
-counted-by : (idle : Bool) (old : LiveState) → StepsTo IsOfCall old.out (if idle then noted old else old.out)
-counted-by true old = noted-steps (planned_fault old) (next_call old) old.out
-counted-by false old = steps-same old.out old.out refl
+counted-by : (idle : Bool) (a b : LiveState) → b.out ≡ (if idle then noted a else a.out) → b.cluster.tasks ≡ a.cluster.tasks → b.waiting ≡ a.waiting → StepsTo IsNoting a b
+counted-by true a b is tasks waiting = noted-steps (planned_fault a) (next_call a) a b is tasks waiting
+counted-by false a b is tasks waiting = steps-same a b (record { body = is; tasks = tasks; waiting = waiting })
 
-pub counted-steps : (old new : LiveState) → new ≡ call_counted old → StepsTo IsOfCall old.out new.out
-counted-steps old new is = steps-to old.out _ new.out (same-out _ _ is) (counted-by (old.busy == 0) old)
+pub counted-steps : (a b : LiveState) → b ≡ call_counted a → StepsTo IsNoting a b
+counted-steps a b is =
+    counted-by (a.busy == 0) a b (ap (λ (x : LiveState). x.out) is) (ap (λ (x : LiveState). x.cluster.tasks) is) (ap (λ (x : LiveState). x.waiting) is)

@@ -29,6 +29,8 @@ pub record LiveState : Type 0 where
   pub sent : List SentUpdate
   -- the body of the current stream, and the planned faults
   pub out : BodyState
+  -- the events from outside that are not sent yet, oldest first
+  pub waiting : List Event
   -- the number of calls that are to be answered with 503, as standard input demands
   pub busy : ℕ
   -- the number of calls of the run
@@ -43,7 +45,7 @@ pub record LiveState : Type 0 where
 -- a new live test master, whose tasks finish after running for `finish_after`
 abbrev pub new_live : MasterState → Option ℕ → BodyState → LiveState
 new_live master finish_after out =
-    record { master = master; cluster = empty_cluster finish_after; sent = []; out = out; busy = 0; calls = 0; time = 0; taken = 0; log = [] }
+    record { master = master; cluster = empty_cluster finish_after; sent = []; out = out; waiting = []; busy = 0; calls = 0; time = 0; taken = 0; log = [] }
 
 -- after the current stream was disconnected
 abbrev pub broke : LiveState → LiveState
@@ -57,6 +59,24 @@ at_time now live = record live { time = max live.time now }
 abbrev pub with_stock : List Offer → LiveState → LiveState
 with_stock offers live = record live { cluster = record live.cluster { stock = live.cluster.stock ++ map stocked offers } }
 
+-- ---- events that wait
+
+-- before the event was taken from the front of those that wait, if it was
+abbrev pub with_first : Event → LiveState → LiveState
+with_first event live = record live { waiting = event ∷ live.waiting }
+
+abbrev pub with_taken : Option Event → LiveState → LiveState
+with_taken None live = live
+with_taken (Some event) live = with_first event live
+
+-- after the event joined those that wait
+abbrev pub with_last : Event → LiveState → LiveState
+with_last event live = record live { waiting = live.waiting ++ event ∷ [] }
+
+-- one more call is to be answered with 503
+abbrev pub one_more_busy : LiveState → LiveState
+one_more_busy live = record live { busy = saturated_sum live.busy 1 }
+
 -- ---- planned faults
 
 -- the number of planned faults that happened in the run; it stops at 2^64 - 1
@@ -69,10 +89,14 @@ faults_taken live = record live { taken = faults live; out = record live.out { h
 
 -- ---- events
 
+-- the record of an event
+abbrev pub record_of : Event → List ℕ
+record_of event = record_bytes (canonical_text event)
+
 -- Relates a state to that after an event was sent. Its record was appended to the body, and its type
 -- to the log; or it is lost, because the stream is muted or broken.
 pub record Pushes (event : Event) (old new : LiveState) : Type 0 where
-  pub body : Sends old.time old.out (record_bytes (canonical_text event)) new.out
+  pub body : Sends old.time old.out (record_of event) new.out
   pub rest : new ≡ record old { out = new.out; log = if flows old.out.delivery then logged (event_sent event) old.log else old.log }
 
 abbrev pub sent_by : Option OwedKey → ℕ → List SentUpdate → List SentUpdate

@@ -27,14 +27,14 @@ abbrev pub after_deed : MasterState → Deed → MasterState
 after_deed m deed = (after (past_at m) deed).master
 
 -- the deeds lead from one state of a master to another, and what each of them launches fits
-abbrev pub Leads : MasterState → List Deed → MasterState → Type 0
-Leads m [] n = n ≡ m
-Leads m (deed ∷ deeds) n = DeedFits m deed × Leads (after_deed m deed) deeds n
+abbrev pub DeedsLead : MasterState → List Deed → MasterState → Type 0
+DeedsLead m [] n = n ≡ m
+DeedsLead m (deed ∷ deeds) n = DeedFits m deed × DeedsLead (after_deed m deed) deeds n
 
 -- some deeds lead from one state of a master to another, and what each of them launches fits
 pub record Moves (m n : MasterState) : Type 0 where
   pub deeds : List Deed
-  pub leads : Leads m deeds n
+  pub leads : DeedsLead m deeds n
 
 -- ---- what holds of a run
 

@@ -11,8 +11,9 @@
 //!     live.wrote(count);
 //!
 //! The test master changes only by calls and events of `mes_double_master`, and launches only tasks
-//! that fit; `live_laws` proves what follows from that. Times are in milliseconds. The crate
-//! `mesosev_live` serves it over sockets.
+//! that fit; `live_laws` proves what follows from that. The stream, the tasks and the events that
+//! wait change only by steps (`specs/Steps.antt`), from which `stream_laws`, `task_laws` and
+//! `waiting_laws` follow. Times are in milliseconds. The crate `mesosev_live` serves it over sockets.
 
 mod fault;
 mod live;
@@ -28,4 +29,4 @@ pub use live::Live;
 pub use reply::{EndedStream, Reply};
 pub use run_log::{LogEntry, MAX_LOG};
 pub use settings::Settings;
-pub use theorems::{live_laws, stream_laws};
+pub use theorems::{live_laws, stream_laws, task_laws, waiting_laws};

@@ -1,17 +1,19 @@
 //! The state of a live test master. `calling.rt` handles calls, `accepting.rt` ACCEPT, and
-//! `telling.rt` the events from outside. `reporting.rt` sends updates, `logging.rt` sends events and
-//! logs them, and `reading.rt` has the read access to the state.
+//! `following.rt` does what other calls demand. `telling.rt` takes the events from outside,
+//! `reporting.rt` sends updates, `logging.rt` sends events and logs them, and `reading.rt` has the
+//! read access to the state.
 ghost use Rattle.std.specs.Prelude.{◌≡◌, ◌≤◌, [], ◌∷◌, true, is_some, option_copied, IfOk, OnOk};
 ghost use Rattle.mes_double_cluster.specs.Clusters.{offer_at};
-ghost use Rattle.mes_double_live.specs.Bodies.{empty, written, breaks_now, cleared, released};
+ghost use Rattle.mes_double_live.specs.Bodies.{empty, written, breaks_now, released};
 ghost use Rattle.mes_double_live.specs.Lives.{at_time, broke, faults_taken, new_live};
 ghost use Rattle.mes_double_live.specs.Moving.{Moves};
-ghost use Rattle.mes_double_live.specs.Opening.{Makes};
-ghost use Rattle.mes_double_live.specs.BodySteps.{StepsTo, IsSending, IsOfCall, IsOfTime, IsTaking};
-ghost use Rattle.mes_double_live.specs.BodySteps.BodyStep.{beats};
+ghost use Rattle.mes_double_live.specs.Opening.{ChangesBy};
+ghost use Rattle.mes_double_live.specs.Steps.{StepsTo, IsSending, IsEnding, IsOfTime, IsTaking};
+ghost use Rattle.mes_double_live.specs.Steps.Step.{beats, clears};
 
 mod accepting;
 mod calling;
+mod following;
 mod logging;
 mod reading;
 mod reporting;
@@ -81,6 +83,7 @@ impl Model for Live {
       cluster = live.cluster;
       sent = live.sent;
       out = live.out;
+      waiting = live.waiting.items;
       busy = live.busy;
       calls = live.calls;
       time = live.time;
@@ -163,7 +166,7 @@ impl Live {
     pub fn take_happened(&mut self) -> Vec<Fault>
         ensures taken { result.items ≡ self.old.out.happened }
         ensures rest { self.new ≡ faults_taken self.old }
-        ensures steps { StepsTo IsTaking self.old.out self.new.out }
+        ensures steps { StepsTo IsTaking self.old self.new }
     {
         let happened = self.out.take_happened();
         self.taken = self.taken.saturating_add(happened.len() as u64);
@@ -173,7 +176,7 @@ impl Live {
     /// Notes that the first `count` pending bytes were written.
     pub fn wrote(&mut self, count: usize)
         ensures state { self.new ≡ record self.old { out = written count self.old.out } }
-        ensures steps { StepsTo IsTaking self.old.out self.new.out }
+        ensures steps { StepsTo IsTaking self.old self.new }
     {
         self.out.wrote(count);
     }
@@ -183,7 +186,7 @@ impl Live {
     pub fn broken(&mut self)
         ensures state { self.new ≡ broke self.old }
         ensures moves { Moves self.old.master self.new.master }
-        ensures steps { StepsTo IsOfCall self.old.out self.new.out }
+        ensures steps { StepsTo IsEnding self.old self.new }
     {
         self.master.broken();
         self.cluster.disconnected(self.time);
@@ -194,7 +197,7 @@ impl Live {
     /// not written of it, or `None` without a stream. Otherwise it is like [`Live::broken`].
     pub fn stop(&mut self) -> Result<Option<EndedStream>, LiveFault>
         ensures moves { Moves self.old.master self.new.master }
-        ensures steps { OnOk result (StepsTo IsOfCall self.old.out self.new.out) }
+        ensures steps { OnOk result (StepsTo IsEnding self.old self.new) }
     {
         let Some(id) = self.current() else {
             return Ok(None);
@@ -207,7 +210,7 @@ impl Live {
     /// Notes in the master that the current stream was disconnected.
     fn break_stream(&mut self)
         ensures moves { Moves self.old.master self.new.master }
-        ensures kept { self.new.out ≡ self.old.out }
+        ensures rest { self.new ≡ record self.old { master = self.new.master } }
     {
         self.master.broken();
     }
@@ -215,8 +218,7 @@ impl Live {
     /// Ends the current stream by its last chunk. The offers that were outstanding are free.
     fn end_stream(&mut self, id: StreamId) -> Result<EndedStream, LiveFault>
         ensures same { self.new.master ≡ self.old.master }
-        ensures cleared { OnOk result (self.new.out ≡ cleared self.old.out) }
-        ensures time { self.new.time ≡ self.old.time }
+        ensures ends { OnOk result (ChangesBy (clears ∷ []) self.old self.new) }
     {
         self.cluster.disconnected(self.time);
         let rest = self.out.end()?;
@@ -230,7 +232,7 @@ impl Live {
         // The test master changes only by its own deeds, and what these launch fits.
         ensures moves { Moves self.old.master self.new.master }
         ensures steps { OnOk result (StepsTo (IsOfTime (at_time now self.old).time)
-            self.old.out self.new.out) }
+            self.old self.new) }
     {
         self.note_time(now);
         if !self.has_stream() {
@@ -248,6 +250,7 @@ impl Live {
         ensures same { self.new.master ≡ self.old.master }
         ensures released { OnOk result
             (self.new.out ≡ released self.old.time self.old.out) }
+        ensures rest { self.new ≡ record self.old { out = self.new.out } }
     {
         self.out.release(self.time)
     }
@@ -261,7 +264,7 @@ impl Live {
     /// Sends a HEARTBEAT if one is due.
     fn beat_due(&mut self) -> Result<(), LiveFault>
         ensures same { self.new.master ≡ self.old.master }
-        ensures steps { OnOk result (StepsTo IsSending self.old.out self.new.out) }
+        ensures steps { OnOk result (StepsTo IsSending self.old self.new) }
     {
         if self.beats_at <= self.time {
             self.beat()
@@ -303,9 +306,9 @@ impl Live {
     /// without a stream.
     pub fn beat(&mut self) -> Result<(), LiveFault>
         ensures same { self.new.master ≡ self.old.master }
-        ensures steps { OnOk result (StepsTo IsSending self.old.out self.new.out) }
+        ensures steps { OnOk result (StepsTo IsSending self.old self.new) }
         ensures beats { OnOk result (is_some self.old.master.stream ≡ true
-            → Makes (beats ∷ []) self.old self.new) }
+            → ChangesBy (beats ∷ []) self.old self.new) }
     {
         if !self.has_stream() {
             return Ok(());
@@ -317,7 +320,7 @@ impl Live {
     /// Sends the updates and then the offers that are due. Does nothing without a stream.
     fn send_due(&mut self) -> Result<(), LiveFault>
         ensures moves { Moves self.old.master self.new.master }
-        ensures steps { OnOk result (StepsTo IsSending self.old.out self.new.out) }
+        ensures steps { OnOk result (StepsTo IsSending self.old self.new) }
     {
         if !self.has_stream() {
             return Ok(());
@@ -329,7 +332,7 @@ impl Live {
     /// Makes the offers that are due, and sends them in one event.
     fn offer_due(&mut self) -> Result<(), LiveFault>
         ensures moves { Moves self.old.master self.new.master }
-        ensures steps { OnOk result (StepsTo IsSending self.old.out self.new.out) }
+        ensures steps { OnOk result (StepsTo IsSending self.old self.new) }
     {
         let made = self.make_offers()?;
         if made.is_empty() {
@@ -341,7 +344,9 @@ impl Live {
     /// Makes the offers that are due.
     fn make_offers(&mut self) -> Result<Vec<Offer>, LiveFault>
         ensures moves { Moves self.old.master self.new.master }
-        ensures kept { self.new.out ≡ self.old.out }
+        ensures rest { self.new
+            ≡ record self.old { master = self.new.master; cluster = self.new.cluster } }
+        ensures tasks { OnOk result (self.new.cluster.tasks ≡ self.old.cluster.tasks) }
     {
         let mut made = Vec::new(self.alloc());
         for index in 0..self.stock_len() {
@@ -354,7 +359,9 @@ impl Live {
     /// made.
     fn make_offer_at(&mut self, index: usize, made: &mut Vec<Offer>) -> Result<(), LiveFault>
         ensures moves { Moves self.old.master self.new.master }
-        ensures kept { self.new.out ≡ self.old.out }
+        ensures rest { self.new
+            ≡ record self.old { master = self.new.master; cluster = self.new.cluster } }
+        ensures tasks { OnOk result (self.new.cluster.tasks ≡ self.old.cluster.tasks) }
     {
         match self.next_offer(index)? {
             Some(offer) => self.make_offer(index, offer, made),
@@ -385,7 +392,9 @@ impl Live {
         made: &mut Vec<Offer>,
     ) -> Result<(), LiveFault>
         ensures moves { Moves self.old.master self.new.master }
-        ensures kept { self.new.out ≡ self.old.out }
+        ensures rest { self.new
+            ≡ record self.old { master = self.new.master; cluster = self.new.cluster } }
+        ensures tasks { self.new.cluster.tasks ≡ self.old.cluster.tasks }
     {
         match self.master.note_offers(slice::from_ref(&offer)) {
             Ok(()) => {

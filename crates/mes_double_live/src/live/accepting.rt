@@ -6,7 +6,7 @@ ghost use Rattle.mes_session_state.specs.Calls.{accept_call};
 ghost use Rattle.mes_double_master.specs.Masters.{named, handled};
 ghost use Rattle.mes_double_live.specs.Lives.{OpensBy};
 ghost use Rattle.mes_double_live.specs.Moving.{Moves};
-ghost use Rattle.mes_double_live.specs.BodySteps.{StepsTo, IsSending};
+ghost use Rattle.mes_double_live.specs.Steps.{StepsTo, IsSending, IsLaunching};
 
 use super::Live;
 use crate::fault::LiveFault;
@@ -47,7 +47,7 @@ impl Live {
         body: &Accept,
     ) -> Result<Reply, LiveFault>
         ensures moves { Moves self.old.master self.new.master }
-        ensures steps { OnOk result (StepsTo IsSending self.old.out self.new.out) }
+        ensures steps { OnOk result (StepsTo IsLaunching self.old self.new) }
         ensures status { IfOk result (λ reply. reply.status
             ≡ (handled self.old.master (of.Accept framework.now body.now)
             (option_copied stream.entry)).status) }
@@ -74,7 +74,7 @@ impl Live {
     ) -> Result<StatusCode, NoMemory>
         requires { Fits (named ids.now self.old.master.outstanding) tasks.now }
         ensures moves { Moves self.old.master self.new.master }
-        ensures kept { self.new.out ≡ self.old.out }
+        ensures rest { self.new ≡ record self.old { master = self.new.master } }
         ensures status { IfOk result (λ status. status
             ≡ (handled self.old.master (accept_call framework.now ids.now tasks.now none)
             (option_copied stream.entry)).status) }
@@ -87,7 +87,7 @@ impl Live {
     /// Notes in the cluster what was launched, and sends the statuses of the other tasks.
     fn note_launch(&mut self, body: &Accept, plan: &LaunchPlan) -> Result<(), LiveFault>
         ensures same { self.new.master ≡ self.old.master }
-        ensures steps { OnOk result (StepsTo IsSending self.old.out self.new.out) }
+        ensures steps { OnOk result (StepsTo IsLaunching self.old self.new) }
     {
         let from = refusal_end(self.time, body.filters.as_ref());
         let ids = body.offer_ids.as_slice();
@@ -97,7 +97,7 @@ impl Live {
 
     fn send_statuses(&mut self, statuses: &[TaskStatus]) -> Result<(), LiveFault>
         ensures same { self.new.master ≡ self.old.master }
-        ensures steps { OnOk result (StepsTo IsSending self.old.out self.new.out) }
+        ensures steps { OnOk result (StepsTo IsSending self.old self.new) }
     {
         for status in statuses {
             self.send_status(status)?;

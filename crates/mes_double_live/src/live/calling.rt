@@ -1,28 +1,26 @@
 //! How a live test master handles calls.
-ghost use Rattle.std.specs.Prelude.{◌≡◌, [], ◌++◌, true, is_some, None as none, option_copied, IfOk, OnOk};
+ghost use Rattle.std.specs.Prelude.{◌≡◌, [], ◌∷◌, ◌++◌, true, is_some, None as none, option_copied, IfOk, OnOk};
+ghost use Rattle.std.specs.List.{AllByRecursion};
 ghost use Rattle.mes_session_state.specs.Calls.{tasks_of};
 ghost use Rattle.mes_double_master.specs.Masters.{handled, is_subscribe, IsAnswer};
-ghost use Rattle.mes_double_live.specs.Bodies.{cleared};
 ghost use Rattle.mes_double_live.specs.Lives.{OpensBy, call_counted, call_status, planned_fault, reply_fault, resets, status_by};
 ghost use Rattle.mes_double_live.specs.Logs.{call_answered, IsLogged};
 ghost use Rattle.mes_double_live.specs.Moving.{Moves};
-ghost use Rattle.mes_double_live.specs.Opening.{BeginsWith, Makes, OpensIf, beginning, opening, replacing, sending, unacknowledged};
-ghost use Rattle.mes_double_live.specs.BodySteps.{StepsTo, IsSending, IsOfCall};
+ghost use Rattle.mes_double_live.specs.Opening.{ChangesBy, OpensIf, beginning, opening, replacing, sending, unacknowledged};
+ghost use Rattle.mes_double_live.specs.Steps.{BeginsWith, StepsTo, StepsWith, NeedsNone, IsNoting, IsOfCall, demanded, demanded_by};
+ghost use Rattle.mes_double_live.specs.Steps.Step.{clears};
 
 use super::{Live, MAX_AHEAD};
 use crate::fault::LiveFault;
 use crate::reply::{EndedStream, Reply};
 use http::StatusCode;
-use mes_double_cluster::{refusal_end, task_unknown};
 use mes_double_faults::{CallFault, Fault};
 use mes_double_http::StreamId;
 use mes_double_master::Answer;
-use mes_double_master_state::events;
-use mes_double_master_state::updates::key_in;
 use mes_json::{NoMemory, Text};
-use mes_model::{Id, TaskRef, TaskStatus};
+use mes_model::Id;
 use mes_model_schema::Part;
-use mes_msg::{Acknowledge, Call, ErrorBody, Event, Failure, Kill, Shutdown};
+use mes_msg::{Call, ErrorBody, Event};
 
 /// The message of the ERROR that ends a stream when the framework subscribes again.
 const FAILED_OVER: &str = "Framework failed over";
@@ -40,17 +38,19 @@ impl Live {
     pub fn call(&mut self, stream: Option<&StreamId>, call: &Call) -> Result<Reply, LiveFault>
         // The test master changes only by its own deeds, and what these launch fits.
         ensures moves { Moves self.old.master self.new.master }
-        ensures steps { OnOk result (StepsTo IsOfCall self.old.out self.new.out) }
+        ensures steps { IfOk result (λ reply. StepsWith (IsOfCall call.now)
+            (demanded call.now reply.status) self.old self.new) }
         ensures status { IfOk result (λ reply. reply.status
             ≡ call_status self.old call.now (option_copied stream.entry)) }
         // What happens to the connection of the call.
         ensures fault { IfOk result (λ reply. reply.fault ≡ reply_fault self.old) }
         // Only a response with status 200 opens a stream.
         ensures opened { IfOk result (λ reply. OpensBy reply.opened reply.status) }
-        // On a new stream, SUBSCRIBED and a HEARTBEAT are sent first, and then the unacknowledged
-        // updates.
+        // A new stream is that of the test master. On it, SUBSCRIBED and a HEARTBEAT are sent first,
+        // and then the unacknowledged updates.
         ensures opens { IfOk result (λ reply. OpensIf reply.opened
-            (call_counted self.old) self.new.out) }
+            (handled self.old.master call.now (option_copied stream.entry)).master
+            (call_counted self.old) self.new) }
         // The response is the last entry of the log.
         ensures logged { IfOk result (λ reply.
             IsLogged (call_answered call.now reply.status) self.new.log) }
@@ -67,13 +67,15 @@ impl Live {
         call: &Call,
     ) -> Result<Reply, LiveFault>
         ensures moves { Moves self.old.master self.new.master }
-        ensures steps { OnOk result (StepsTo IsOfCall self.old.out self.new.out) }
+        ensures steps { IfOk result (λ reply. StepsWith (IsOfCall call.now)
+            (demanded call.now reply.status) self.old self.new) }
         ensures status { IfOk result (λ reply. reply.status
             ≡ call_status self.old call.now (option_copied stream.entry)) }
         ensures fault { IfOk result (λ reply. reply.fault ≡ reply_fault self.old) }
         ensures opened { IfOk result (λ reply. OpensBy reply.opened reply.status) }
         ensures opens { IfOk result (λ reply. OpensIf reply.opened
-            (call_counted self.old) self.new.out) }
+            (handled self.old.master call.now (option_copied stream.entry)).master
+            (call_counted self.old) self.new) }
     {
         let fault = self.next_fault()?;
         let reply = self.respond_by(fault, stream, call)?;
@@ -88,11 +90,14 @@ impl Live {
         call: &Call,
     ) -> Result<Reply, LiveFault>
         ensures moves { Moves self.old.master self.new.master }
-        ensures steps { OnOk result (StepsTo IsOfCall self.old.out self.new.out) }
+        ensures steps { IfOk result (λ reply. StepsWith (IsOfCall call.now)
+            (demanded call.now reply.status) self.old self.new) }
         ensures status { IfOk result (λ reply. reply.status ≡ status_by fault
             (handled self.old.master call.now (option_copied stream.entry)).status) }
         ensures opened { IfOk result (λ reply. OpensBy reply.opened reply.status) }
-        ensures opens { IfOk result (λ reply. OpensIf reply.opened self.old self.new.out) }
+        ensures opens { IfOk result (λ reply. OpensIf reply.opened
+            (handled self.old.master call.now (option_copied stream.entry)).master
+            self.old self.new) }
     {
         match fault {
             Some(CallFault::Busy | CallFault::Reset) => {
@@ -140,7 +145,7 @@ impl Live {
     pub fn reset(&mut self) -> Result<(), LiveFault>
         ensures same { self.new.master ≡ self.old.master }
         ensures counted { OnOk result (self.new ≡ call_counted self.old) }
-        ensures steps { OnOk result (StepsTo IsOfCall self.old.out self.new.out) }
+        ensures steps { OnOk result (StepsTo IsNoting self.old self.new) }
     {
         self.next_fault()?;
         Ok(())
@@ -150,40 +155,50 @@ impl Live {
     /// 403.
     fn remove(&mut self, stream: Option<&StreamId>, call: &Call) -> Result<Reply, LiveFault>
         ensures moves { Moves self.old.master self.new.master }
-        ensures steps { OnOk result (StepsTo IsOfCall self.old.out self.new.out) }
+        ensures steps { IfOk result (λ reply. StepsWith (IsOfCall call.now)
+            (demanded call.now reply.status) self.old self.new) }
         ensures status { IfOk result (λ reply. reply.status ≡ 403) }
         ensures opened { IfOk result (λ reply. reply.opened ≡ none) }
     {
-        let mut reply = Reply::plain(StatusCode::FORBIDDEN);
-        if let Some(framework) = framework_of(call) {
-            reply.ended = self.tear_down(stream, framework)?;
-        }
-        Ok(reply)
+        let ended = self.tear_down(stream, call)?;
+        Ok(Reply {
+            status: StatusCode::FORBIDDEN,
+            opened: None,
+            ended,
+            fault: None,
+        })
     }
 
-    /// Carries out a TEARDOWN of this framework, and returns the stream that it ended.
+    /// Carries out a TEARDOWN of the framework that sends this call, and returns the stream that it
+    /// ended.
     fn tear_down(
         &mut self,
         stream: Option<&StreamId>,
-        framework: &Id,
+        call: &Call,
     ) -> Result<Option<EndedStream>, LiveFault>
         ensures moves { Moves self.old.master self.new.master }
-        ensures steps { OnOk result (StepsTo IsOfCall self.old.out self.new.out) }
+        ensures steps { OnOk result (StepsTo (IsOfCall call.now) self.old self.new) }
     {
+        let Some(framework) = framework_of(call) else {
+            return Ok(None);
+        };
         let framework_id = framework.copy(self.alloc)?;
-        let call = Call::Teardown { framework_id };
-        let reply = self.carry_out(stream, &call)?;
+        let teardown = Call::Teardown { framework_id };
+        let reply = self.carry_out(stream, &teardown)?;
         Ok(reply.ended)
     }
 
     /// Handles a call, and sends what is due after it.
     fn respond(&mut self, stream: Option<&StreamId>, call: &Call) -> Result<Reply, LiveFault>
         ensures moves { Moves self.old.master self.new.master }
-        ensures steps { OnOk result (StepsTo IsOfCall self.old.out self.new.out) }
+        ensures steps { IfOk result (λ reply. StepsWith (IsOfCall call.now)
+            (demanded call.now reply.status) self.old self.new) }
         ensures status { IfOk result (λ reply. reply.status
             ≡ (handled self.old.master call.now (option_copied stream.entry)).status) }
         ensures opened { IfOk result (λ reply. OpensBy reply.opened reply.status) }
-        ensures opens { IfOk result (λ reply. OpensIf reply.opened self.old self.new.out) }
+        ensures opens { IfOk result (λ reply. OpensIf reply.opened
+            (handled self.old.master call.now (option_copied stream.entry)).master
+            self.old self.new) }
     {
         let reply = self.reply_to(stream, call)?;
         self.send_due()?;
@@ -192,11 +207,14 @@ impl Live {
 
     fn reply_to(&mut self, stream: Option<&StreamId>, call: &Call) -> Result<Reply, LiveFault>
         ensures moves { Moves self.old.master self.new.master }
-        ensures steps { OnOk result (StepsTo IsOfCall self.old.out self.new.out) }
+        ensures steps { IfOk result (λ reply. StepsWith (IsOfCall call.now)
+            (demanded call.now reply.status) self.old self.new) }
         ensures status { IfOk result (λ reply. reply.status
             ≡ (handled self.old.master call.now (option_copied stream.entry)).status) }
         ensures opened { IfOk result (λ reply. OpensBy reply.opened reply.status) }
-        ensures opens { IfOk result (λ reply. OpensIf reply.opened self.old self.new.out) }
+        ensures opens { IfOk result (λ reply. OpensIf reply.opened
+            (handled self.old.master call.now (option_copied stream.entry)).master
+            self.old self.new) }
     {
         match call {
             Call::Subscribe { .. } => self.subscribe(stream, call),
@@ -209,13 +227,12 @@ impl Live {
     fn handle(&mut self, stream: Option<&StreamId>, call: &Call) -> Result<Answer, LiveFault>
         requires { tasks_of call.now ≡ [] }
         ensures moves { Moves self.old.master self.new.master }
-        ensures kept { self.new.out ≡ self.old.out }
+        ensures rest { self.new ≡ record self.old { master = self.new.master } }
         ensures status { IfOk result (λ answer. answer.status
             ≡ (handled self.old.master call.now (option_copied stream.entry)).status) }
         ensures answered { IfOk result (λ answer. IsAnswer
             (handled self.old.master call.now (option_copied stream.entry)) answer.status
             answer.events.items self.new.master) }
-        ensures time { self.new.time ≡ self.old.time }
     {
         Ok(self.master.handle(call, stream)?)
     }
@@ -224,21 +241,25 @@ impl Live {
         requires none { tasks_of call.now ≡ [] }
         requires subscribe { is_subscribe call.now ≡ true }
         ensures moves { Moves self.old.master self.new.master }
-        ensures steps { OnOk result (StepsTo IsOfCall self.old.out self.new.out) }
+        ensures steps { IfOk result (λ reply. StepsWith (IsOfCall call.now)
+            (demanded call.now reply.status) self.old self.new) }
         ensures status { IfOk result (λ reply. reply.status
             ≡ (handled self.old.master call.now (option_copied stream.entry)).status) }
         ensures opened { IfOk result (λ reply. OpensBy reply.opened reply.status) }
-        ensures opens { IfOk result (λ reply. OpensIf reply.opened self.old self.new.out) }
+        ensures opens { IfOk result (λ reply. OpensIf reply.opened
+            (handled self.old.master call.now (option_copied stream.entry)).master
+            self.old self.new) }
     {
         let old = self.current();
         let answer = self.handle(stream, call)?;
         if answer.status != StatusCode::OK {
             return Ok(Reply::plain(answer.status));
         }
+        let opened = self.current();
         let ended = self.open_stream(old, answer.events.as_slice())?;
         Ok(Reply {
             status: answer.status,
-            opened: self.current(),
+            opened,
             ended,
             fault: None,
         })
@@ -253,8 +274,8 @@ impl Live {
         requires { is_some self.old.master.stream ≡ true }
         ensures moves { Moves self.old.master self.new.master }
         ensures begins { OnOk result (BeginsWith (replacing self.old.time old
-            ++ beginning self.old.time events.now (unacknowledged self.old.master)) self.old.out
-            self.new.out) }
+            ++ beginning self.old.time events.now (unacknowledged self.old.master)) self.old
+            self.new) }
     {
         let ended = self.fail_over(old)?;
         self.send_all(events)?;
@@ -268,7 +289,7 @@ impl Live {
     /// Ends the stream that a new one replaces, if there was one.
     fn fail_over(&mut self, old: Option<StreamId>) -> Result<Option<EndedStream>, LiveFault>
         ensures same { self.new.master ≡ self.old.master }
-        ensures ends { OnOk result (Makes (replacing self.old.time old) self.old self.new) }
+        ensures ends { OnOk result (ChangesBy (replacing self.old.time old) self.old self.new) }
     {
         let Some(id) = old else {
             self.clear();
@@ -282,8 +303,7 @@ impl Live {
     /// Drops all bytes that are not written.
     fn clear(&mut self)
         ensures same { self.new.master ≡ self.old.master }
-        ensures cleared { self.new.out ≡ cleared self.old.out }
-        ensures time { self.new.time ≡ self.old.time }
+        ensures ends { ChangesBy (clears ∷ []) self.old self.new }
     {
         self.out.clear();
     }
@@ -291,7 +311,7 @@ impl Live {
     /// Sends events of the master.
     fn send_all(&mut self, sent: &[Event]) -> Result<(), LiveFault>
         ensures same { self.new.master ≡ self.old.master }
-        ensures sends { OnOk result (Makes (sending self.old.time sent.now) self.old self.new) }
+        ensures sends { OnOk result (ChangesBy (sending self.old.time sent.now) self.old self.new) }
     {
         for event in sent {
             self.push(event)?;
@@ -303,7 +323,8 @@ impl Live {
     fn carry_out(&mut self, stream: Option<&StreamId>, call: &Call) -> Result<Reply, LiveFault>
         requires { tasks_of call.now ≡ [] }
         ensures moves { Moves self.old.master self.new.master }
-        ensures steps { OnOk result (StepsTo IsOfCall self.old.out self.new.out) }
+        ensures steps { IfOk result (λ reply. StepsWith (IsOfCall call.now)
+            (demanded call.now reply.status) self.old self.new) }
         ensures status { IfOk result (λ reply. reply.status
             ≡ (handled self.old.master call.now (option_copied stream.entry)).status) }
         ensures opened { IfOk result (λ reply. OpensBy reply.opened reply.status) }
@@ -331,8 +352,10 @@ impl Live {
         old: Option<StreamId>,
         events: &[Event],
     ) -> Result<Option<EndedStream>, LiveFault>
+        requires { AllByRecursion NeedsNone events.now }
         ensures same { self.new.master ≡ self.old.master }
-        ensures steps { OnOk result (StepsTo IsOfCall self.old.out self.new.out) }
+        ensures steps { OnOk result (StepsWith (IsOfCall call.now) (demanded_by call.now)
+            self.old self.new) }
     {
         match (call, old) {
             (Call::Teardown { .. }, Some(id)) => Ok(Some(self.end_stream(id)?)),
@@ -342,120 +365,6 @@ impl Live {
                 Ok(None)
             }
         }
-    }
-
-    /// Changes the cluster as a call demands that the master carried out, and sends what follows.
-    fn follow(&mut self, call: &Call) -> Result<(), LiveFault>
-        ensures same { self.new.master ≡ self.old.master }
-        ensures steps { OnOk result (StepsTo IsSending self.old.out self.new.out) }
-    {
-        match call {
-            Call::Decline { body, .. } => {
-                let from = refusal_end(self.time, body.filters.as_ref());
-                self.cluster.declined(body.offer_ids.as_slice(), from);
-                Ok(())
-            }
-            Call::Revive { .. } => {
-                self.cluster.revive();
-                Ok(())
-            }
-            Call::Suppress { .. } => {
-                self.cluster.suppress();
-                Ok(())
-            }
-            Call::Acknowledge { body, .. } => self.acknowledge(body),
-            Call::Kill { body, .. } => self.kill(body),
-            Call::Reconcile { body, .. } => self.reconcile_unknown(body.tasks.as_slice()),
-            Call::Shutdown { body, .. } => self.shut_down(body),
-            Call::Message { body, .. } => {
-                let echo = Event::Message(body.copy(self.alloc)?);
-                self.push(&echo)
-            }
-            _ => Ok(()),
-        }
-    }
-
-    fn acknowledge(&mut self, body: &Acknowledge) -> Result<(), LiveFault>
-        ensures same { self.new.master ≡ self.old.master }
-        ensures kept { self.new.out ≡ self.old.out }
-    {
-        let key = key_in(self.alloc, body)?;
-        self.sent.acknowledge(&key);
-        self.cluster.acknowledged(body);
-        Ok(())
-    }
-
-    /// Kills a task of the cluster. A task that nobody knows, or that has ended, is reported as
-    /// lost; one that only events from outside reported is left to them.
-    fn kill(&mut self, body: &Kill) -> Result<(), LiveFault>
-        ensures same { self.new.master ≡ self.old.master }
-        ensures steps { OnOk result (StepsTo IsSending self.old.out self.new.out) }
-    {
-        if self.cluster.kill(&body.task_id) || self.is_reported_alive(&body.task_id) {
-            return Ok(());
-        }
-        self.send_unknown(&body.task_id, body.agent_id.as_ref())
-    }
-
-    /// Returns whether the last status of the task is not that of an ended task.
-    fn is_reported_alive(&self, task: &Id) -> bool {
-        match self.master.last_status(task) {
-            Some(status) => !mes_double_cluster::is_last(status.state),
-            None => false,
-        }
-    }
-
-    /// Sends an UPDATE of each of these tasks that has no status.
-    fn reconcile_unknown(&mut self, tasks: &[TaskRef]) -> Result<(), LiveFault>
-        ensures same { self.new.master ≡ self.old.master }
-        ensures steps { OnOk result (StepsTo IsSending self.old.out self.new.out) }
-    {
-        for task in tasks {
-            self.reconcile_task(task)?;
-        }
-        Ok(())
-    }
-
-    /// Sends an UPDATE of this task if it has no status.
-    fn reconcile_task(&mut self, task: &TaskRef) -> Result<(), LiveFault>
-        ensures same { self.new.master ≡ self.old.master }
-        ensures steps { OnOk result (StepsTo IsSending self.old.out self.new.out) }
-    {
-        if self.master.last_status(&task.task_id).is_some() {
-            return Ok(());
-        }
-        self.send_unknown(&task.task_id, task.agent_id.as_ref())
-    }
-
-    /// Reports a task that nobody knows as lost.
-    fn send_unknown(&mut self, task: &Id, agent: Option<&Id>) -> Result<(), LiveFault>
-        ensures same { self.new.master ≡ self.old.master }
-        ensures steps { OnOk result (StepsTo IsSending self.old.out self.new.out) }
-    {
-        let status = task_unknown(self.alloc, task, agent)?;
-        self.send_status(&status)
-    }
-
-    /// Sends an UPDATE that the master does not record, since it launched no such task.
-    pub(super) fn send_status(&mut self, status: &TaskStatus) -> Result<(), LiveFault>
-        ensures same { self.new.master ≡ self.old.master }
-        ensures steps { OnOk result (StepsTo IsSending self.old.out self.new.out) }
-    {
-        let event = events::update(self.alloc, status)?;
-        self.push(&event)
-    }
-
-    /// Sends the FAILURE of an executor that was shut down.
-    fn shut_down(&mut self, body: &Shutdown) -> Result<(), LiveFault>
-        ensures same { self.new.master ≡ self.old.master }
-        ensures steps { OnOk result (StepsTo IsSending self.old.out self.new.out) }
-    {
-        let failure = Failure {
-            agent_id: Some(body.agent_id.copy(self.alloc)?),
-            executor_id: Some(body.executor_id.copy(self.alloc)?),
-            status: None,
-        };
-        self.push(&Event::Failure(failure))
     }
 }
 

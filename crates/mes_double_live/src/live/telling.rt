@@ -1,8 +1,10 @@
 //! How a live test master takes events from outside.
-ghost use Rattle.std.specs.Prelude.{◌≡◌, OnOk};
-ghost use Rattle.mes_double_live.specs.Lives.{with_stock};
+ghost use Rattle.std.specs.Prelude.{◌≡◌, [], ◌∷◌, true, false, IfOk, OnOk};
+ghost use Rattle.mes_double_live.specs.Arriving.{arriving, is_busy, waits_first};
+ghost use Rattle.mes_double_live.specs.Lives.{one_more_busy, with_first, with_last, with_stock, with_taken};
 ghost use Rattle.mes_double_live.specs.Moving.{Moves};
-ghost use Rattle.mes_double_live.specs.BodySteps.{StepsTo, IsSending};
+ghost use Rattle.mes_double_live.specs.Steps.{BeginsWith, StepsTo, IsForgetting, IsRefusable, IsSending};
+ghost use Rattle.mes_double_live.specs.Steps.Step.{waits};
 
 use super::Live;
 use crate::fault::LiveFault;
@@ -25,7 +27,10 @@ impl Live {
     pub fn told(&mut self, event: Event) -> Result<(), LiveFault>
         // The test master changes only by its own deeds, and what these launch fits.
         ensures moves { Moves self.old.master self.new.master }
-        ensures steps { OnOk result (StepsTo IsSending self.old.out self.new.out) }
+        // An event that is to be sent joins those that wait.
+        ensures arrives { OnOk result (BeginsWith (arriving event) self.old self.new) }
+        // After a BUSY one more call gets the status 503, and nothing else changes.
+        ensures busy { is_busy event ≡ true → self.new ≡ one_more_busy self.old }
     {
         match event {
             Event::Subscribed(_) => Ok(()),
@@ -40,7 +45,8 @@ impl Live {
     /// Has one more call answered with 503 for a BUSY, or takes another event.
     fn take_other(&mut self, event: Event) -> Result<(), LiveFault>
         ensures moves { Moves self.old.master self.new.master }
-        ensures steps { OnOk result (StepsTo IsSending self.old.out self.new.out) }
+        ensures arrives { OnOk result (BeginsWith (waits_first event) self.old self.new) }
+        ensures busy { is_busy event ≡ true → self.new ≡ one_more_busy self.old }
     {
         if is_busy(&event) {
             self.add_busy();
@@ -52,8 +58,7 @@ impl Live {
 
     /// Has one more call answered with 503.
     fn add_busy(&mut self)
-        ensures same { self.new.master ≡ self.old.master }
-        ensures kept { self.new.out ≡ self.old.out }
+        ensures { self.new ≡ one_more_busy self.old }
     {
         self.busy = self.busy.saturating_add(1);
     }
@@ -66,22 +71,25 @@ impl Live {
         self.cluster.stock(offers)
     }
 
-    /// Sends an event on the current stream; or stores it, if there is no stream or earlier events
-    /// wait.
+    /// Stores an event, and sends it on the current stream, unless there is no stream or earlier
+    /// events wait.
     fn take(&mut self, event: Event) -> Result<(), LiveFault>
         ensures moves { Moves self.old.master self.new.master }
-        ensures steps { OnOk result (StepsTo IsSending self.old.out self.new.out) }
+        ensures arrives { OnOk result (BeginsWith (waits event ∷ []) self.old self.new) }
     {
-        if !self.has_stream() || !self.waiting.is_empty() || !self.out.takes_more(usize::MAX) {
-            return self.store(event);
+        let is_first = self.waiting.is_empty();
+        self.store(event)?;
+        if !is_first || !self.has_stream() || !self.out.takes_more(usize::MAX) {
+            return Ok(());
         }
-        self.deliver(&event)?;
+        self.deliver_first()?;
         self.send_due()
     }
 
     /// Stores an event, to be sent later.
     fn store(&mut self, event: Event) -> Result<(), LiveFault>
-        ensures { self.new ≡ self.old }
+        ensures same { self.new.master ≡ self.old.master }
+        ensures stored { OnOk result (self.new ≡ with_last event self.old) }
     {
         match self.waiting.push_back(event) {
             Ok(()) => Ok(()),
@@ -93,7 +101,7 @@ impl Live {
     /// that reads its stream receives any number of them in little memory.
     pub(super) fn deliver_waiting(&mut self, most: usize) -> Result<(), LiveFault>
         ensures moves { Moves self.old.master self.new.master }
-        ensures steps { OnOk result (StepsTo IsSending self.old.out self.new.out) }
+        ensures steps { OnOk result (StepsTo IsSending self.old self.new) }
     {
         for _ in 0..self.waiting.len() {
             if !self.out.takes_more(most) {
@@ -107,7 +115,7 @@ impl Live {
     /// Sends the first event that waited for a stream, if there is one.
     fn deliver_first(&mut self) -> Result<(), LiveFault>
         ensures moves { Moves self.old.master self.new.master }
-        ensures steps { OnOk result (StepsTo IsSending self.old.out self.new.out) }
+        ensures steps { OnOk result (StepsTo IsSending self.old self.new) }
     {
         match self.take_first() {
             Some(event) => self.deliver(&event),
@@ -115,16 +123,18 @@ impl Live {
         }
     }
 
+    /// Takes the first event that waits, if there is one.
     fn take_first(&mut self) -> Option<Event>
-        ensures { self.new ≡ self.old }
+        ensures same { self.new.master ≡ self.old.master }
+        ensures taken { self.old ≡ with_taken result self.new }
     {
         self.waiting.pop_front()
     }
 
-    /// Sends an event from outside on the current stream.
+    /// Sends an event from outside, which waited until now, on the current stream.
     fn deliver(&mut self, event: &Event) -> Result<(), LiveFault>
         ensures moves { Moves self.old.master self.new.master }
-        ensures steps { OnOk result (StepsTo IsSending self.old.out self.new.out) }
+        ensures steps { OnOk result (StepsTo IsSending (with_first event.now self.old) self.new) }
     {
         if self.admit(event)? {
             self.send(event)
@@ -136,7 +146,8 @@ impl Live {
     /// Makes an event from outside known to the master. Returns false if the master refuses it.
     fn admit(&mut self, event: &Event) -> Result<bool, NoMemory>
         ensures moves { Moves self.old.master self.new.master }
-        ensures kept { self.new.out ≡ self.old.out }
+        ensures steps { OnOk result (StepsTo IsForgetting self.old self.new) }
+        ensures refuses { IfOk result (λ admits. admits ≡ false → IsRefusable event.now) }
     {
         match event {
             Event::Rescind(body) => self.note_rescind(&body.offer_id),
@@ -148,7 +159,7 @@ impl Live {
     /// Sends an event, or does what its name demands of the stream.
     fn send(&mut self, event: &Event) -> Result<(), LiveFault>
         ensures same { self.new.master ≡ self.old.master }
-        ensures steps { OnOk result (StepsTo IsSending self.old.out self.new.out) }
+        ensures steps { OnOk result (StepsTo IsSending (with_first event.now self.old) self.new) }
     {
         if self.obeys(event) {
             return Ok(());
@@ -159,7 +170,8 @@ impl Live {
     /// Does what the name of an event demands of the stream. Returns false if it demands nothing.
     fn obeys(&mut self, event: &Event) -> bool
         ensures same { self.new.master ≡ self.old.master }
-        ensures steps { StepsTo IsSending self.old.out self.new.out }
+        ensures steps { result ≡ true → StepsTo IsSending (with_first event.now self.old) self.new }
+        ensures ignored { result ≡ false → self.new ≡ self.old }
     {
         match event {
             Event::Other(name) => self.out.obey(name.as_str()),
@@ -170,7 +182,9 @@ impl Live {
     /// Takes an offer back. Returns false if the master refuses.
     fn note_rescind(&mut self, id: &Id) -> Result<bool, NoMemory>
         ensures moves { Moves self.old.master self.new.master }
-        ensures kept { self.new.out ≡ self.old.out }
+        ensures rest { self.new
+            ≡ record self.old { master = self.new.master; cluster = self.new.cluster } }
+        ensures tasks { self.new.cluster.tasks ≡ self.old.cluster.tasks }
     {
         match self.master.rescind(id.value.as_str()) {
             Ok(_) => {
@@ -185,7 +199,7 @@ impl Live {
     /// Records a status from outside. Returns false if the master refuses it.
     fn note_update(&mut self, status: &TaskStatus) -> Result<bool, NoMemory>
         ensures moves { Moves self.old.master self.new.master }
-        ensures kept { self.new.out ≡ self.old.out }
+        ensures steps { OnOk result (StepsTo IsForgetting self.old self.new) }
     {
         if !self.record(status)? {
             return Ok(false);
@@ -197,7 +211,7 @@ impl Live {
     /// Records a status in the master. Returns false if the master refuses it.
     fn record(&mut self, status: &TaskStatus) -> Result<bool, NoMemory>
         ensures moves { Moves self.old.master self.new.master }
-        ensures kept { self.new.out ≡ self.old.out }
+        ensures rest { self.new ≡ record self.old { master = self.new.master } }
     {
         match self.master.note_update(status) {
             Ok(()) => Ok(true),
@@ -209,7 +223,7 @@ impl Live {
     /// Notes a status from outside that the master recorded.
     fn note_outside(&mut self, status: &TaskStatus) -> Result<(), NoMemory>
         ensures same { self.new.master ≡ self.old.master }
-        ensures kept { self.new.out ≡ self.old.out }
+        ensures steps { OnOk result (StepsTo IsForgetting self.old self.new) }
     {
         self.note_sent(status)?;
         self.cluster
@@ -219,7 +233,9 @@ impl Live {
 }
 
 /// Returns whether the event is a BUSY.
-fn is_busy(event: &Event) -> bool {
+fn is_busy(event: &Event) -> bool
+    ensures { result ≡ is_busy event.now }
+{
     match event {
         Event::Other(name) => name.as_str() == BUSY,
         _ => false,

@@ -1,13 +1,11 @@
-use Rattle.std.proofs.Common.{subst, sym}
-use Rattle.mes_double_live.specs.Bodies.{BodyState}
-use Rattle.mes_double_live.specs.Lives.{call_counted}
-use Rattle.mes_double_live.specs.Opening.{OpensIf}
-use Rattle.mes_double_live.proofs.StepLemmas.{same-out, steps-to}
+use Rattle.std.proofs.Common.{refl}
+use Rattle.mes_double_live.proofs.OpenLemmas.{opens-to}
+use Rattle.mes_double_live.proofs.StepLemmas.{same-by}
+use Rattle.mes_double_live.proofs.CallLemmas.{with-to}
 use Rattle.mes_double_live.proofs.live.Live.call.Goals as goal
 
 pub returns-clause-steps : goal.returns-clause-steps
-returns-clause-steps c = steps-to _ _ _ (same-out _ _ c.in_ok-log_call.ensures.logged) c.in_ok-reply.ensures.steps
+returns-clause-steps c = with-to _ _ _ _ (same-by _ _ _ c.in_ok-log_call.ensures.logged refl refl refl) c.in_ok-reply.ensures.steps
 
 pub returns-clause-opens : goal.returns-clause-opens
-returns-clause-opens c =
-    subst (λ (body : BodyState). OpensIf c.in_ok-reply.reply.opened (call_counted c.args.self.now) body) (sym (same-out _ _ c.in_ok-log_call.ensures.logged)) c.in_ok-reply.ensures.opens
+returns-clause-opens c = opens-to _ _ _ _ _ (same-by _ _ _ c.in_ok-log_call.ensures.logged refl refl refl) c.in_ok-reply.ensures.opens

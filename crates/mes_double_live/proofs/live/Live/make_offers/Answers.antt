@@ -1,4 +1,5 @@
-use Rattle.std.proofs.Common.{◌∙◌}
+use Rattle.std.proofs.Common.{◌∙◌, ap}
+use Rattle.mes_double_live.specs.Lives.{LiveState}
 use Rattle.mes_double_live.proofs.MoveLemmas.{moves-then}
 use Rattle.mes_double_live.proofs.live.Live.make_offers.Goals as goal
 
@@ -8,5 +9,6 @@ returns-in_err-make_offer_at-clause-moves c = moves-then _ _ _ c.loop-index.inva
 pub loop-index-preserved : goal.loop-index-preserved
 loop-index-preserved c = record {
   moves = moves-then _ _ _ c.loop-index.invariant.moves c.make_offer_at.ensures.moves;
-  kept = c.make_offer_at.ensures.kept ∙ c.loop-index.invariant.kept;
+  rest = c.make_offer_at.ensures.rest ∙ ap (λ (x : LiveState). record x { master = c.make_offer_at.new.self.master; cluster = c.make_offer_at.new.self.cluster }) c.loop-index.invariant.rest;
+  tasks = c.in_ok-make_offer_at.ensures.tasks ∙ c.loop-index.invariant.tasks;
 }

@@ -1,9 +1,12 @@
-use Rattle.mes_double_live.proofs.MoveLemmas.{moves-then}
-use Rattle.mes_double_live.proofs.StepLemmas.{steps-last}
+use Rattle.std.proofs.lemmas.Result.{on_ok_weaker}
+use Rattle.mes_double_live.proofs.MoveLemmas.{moves-from, moves-then}
+use Rattle.mes_double_live.proofs.StepLemmas.{steps-then}
+use Rattle.mes_double_live.proofs.WaitLemmas.{stored-begins}
 use Rattle.mes_double_live.proofs.live.Live.take.Goals as goal
 
 pub returns-clause-moves : goal.returns-clause-moves
-returns-clause-moves c = moves-then _ _ _ c.deliver.ensures.moves c.send_due.ensures.moves
+returns-clause-moves c = moves-from _ _ _ c.store.ensures.same (moves-then _ _ _ c.deliver_first.ensures.moves c.send_due.ensures.moves)
 
-pub returns-clause-steps : goal.returns-clause-steps
-returns-clause-steps c = steps-last _ _ _ _ c.in_ok-deliver.ensures.steps c.send_due.ensures.steps
+pub returns-clause-arrives : goal.returns-clause-arrives
+returns-clause-arrives c =
+    on_ok_weaker _ (λ due. stored-begins _ _ _ _ c.in_ok-store.ensures.stored (steps-then _ _ _ c.in_ok-deliver_first.ensures.steps due)) c.send_due.ensures.steps
