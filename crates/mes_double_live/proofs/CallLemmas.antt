@@ -14,37 +14,60 @@ use Rattle.mes_session_state.specs.Calls.{framework_of}
 use Rattle.mes_double_master.specs.Masters.{MasterState, agrees, answered, asked_for, carried_out, handled, in_stream, is_named, is_subscribe, plain, reconciled_event, subscribed}
 use Rattle.mes_double_live.specs.Lives.{LiveState}
 use Rattle.mes_double_live.specs.declared.reply.Reply.{Reply}
-use Rattle.mes_double_live.proofs.StepLemmas.{Same, all-wider, leads-from, leads-then, leads-to, steps-wider}
-use Rattle.mes_double_live.specs.Steps.{Step, NeedsNone, IsSending, IsNoting, IsLaunching, IsOfCall, Leads, BeginsWith, StepsTo, StepsWith, demanded, demanded_by}
+use Rattle.mes_double_live.proofs.StepLemmas.{Same, all-wider, offers-need-none, sending-of-replying, leads-from, leads-then, leads-to, steps-wider}
+use Rattle.mes_double_live.specs.Steps.{Step, NeedsNone, IsSending, IsDelivering, IsReplying, IsSubscribe, IsNoting, IsLaunching, IsOfCall, Leads, BeginsWith, StepsTo, StepsWith, demanded, demanded_by}
 use Rattle.mes_double_live.specs.Steps.Step.{sends, resends, relays, reports, beats, obeys, waits, drops, releases, goes, clears, notes, takes, launches, acknowledges, kills, forgets}
 
+pub replying-of-call : (call : Call) (step : Step) → IsReplying step → IsOfCall call step
+replying-of-call call (sends now event) is = is
+replying-of-call call (resends now event) is = absurd is
+replying-of-call call (relays now event) is = absurd is
+replying-of-call call (reports now index update finishes status) is = is
+replying-of-call call beats is = is
+replying-of-call call (obeys name) is = absurd is
+replying-of-call call (waits other) is = is
+replying-of-call call (drops event) is = absurd is
+replying-of-call call (releases now) is = is
+replying-of-call call (goes bytes) is = is
+replying-of-call call clears is = tt
+replying-of-call call (notes fault) is = tt
+replying-of-call call takes is = is
+replying-of-call call (launches launch tasks) is = absurd is
+replying-of-call call (acknowledges body) is = is
+replying-of-call call (kills id) is = is
+replying-of-call call (forgets id) is = absurd is
+
 pub sending-of-call : (call : Call) (step : Step) → IsSending step → IsOfCall call step
-sending-of-call call (sends now event) is = is
-sending-of-call call (resends now event) is = tt
-sending-of-call call (relays now event) is = is
-sending-of-call call (reports now index update finishes status) is = is
-sending-of-call call beats is = is
-sending-of-call call (obeys name) is = is
-sending-of-call call (waits event) is = is
-sending-of-call call (drops event) is = is
-sending-of-call call (releases now) is = is
-sending-of-call call (goes bytes) is = is
-sending-of-call call clears is = tt
-sending-of-call call (notes fault) is = tt
-sending-of-call call takes is = is
-sending-of-call call (launches launch tasks) is = absurd is
-sending-of-call call (acknowledges body) is = absurd is
-sending-of-call call (kills id) is = absurd is
-sending-of-call call (forgets id) is = is
+sending-of-call call step is = replying-of-call call step (sending-of-replying step is)
+
+-- a SUBSCRIBE takes the events that wait
+pub delivering-of-subscribe : (call : Call) → IsSubscribe call → (step : Step) → IsDelivering step → IsOfCall call step
+delivering-of-subscribe call on (sends now event) is = offers-need-none event is
+delivering-of-subscribe call on (resends now event) is = on
+delivering-of-subscribe call on (relays now event) is = on
+delivering-of-subscribe call on (reports now index update finishes status) is = is
+delivering-of-subscribe call on beats is = is
+delivering-of-subscribe call on (obeys name) is = on
+delivering-of-subscribe call on (waits other) is = is
+delivering-of-subscribe call on (drops event) is = (on, is)
+delivering-of-subscribe call on (releases now) is = is
+delivering-of-subscribe call on (goes bytes) is = is
+delivering-of-subscribe call on clears is = tt
+delivering-of-subscribe call on (notes fault) is = tt
+delivering-of-subscribe call on takes is = is
+delivering-of-subscribe call on (launches launch tasks) is = absurd is
+delivering-of-subscribe call on (acknowledges body) is = is
+delivering-of-subscribe call on (kills id) is = is
+delivering-of-subscribe call on (forgets id) is = on
 
 pub noting-of-call : (call : Call) (step : Step) → IsNoting step → IsOfCall call step
 noting-of-call call (sends now event) is = absurd is
-noting-of-call call (resends now event) is = tt
+noting-of-call call (resends now event) is = absurd is
 noting-of-call call (relays now event) is = absurd is
 noting-of-call call (reports now index update finishes status) is = absurd is
 noting-of-call call beats is = absurd is
 noting-of-call call (obeys name) is = absurd is
-noting-of-call call (waits event) is = absurd is
+noting-of-call call (waits other) is = absurd is
 noting-of-call call (drops event) is = absurd is
 noting-of-call call (releases now) is = absurd is
 noting-of-call call (goes bytes) is = absurd is
@@ -57,62 +80,62 @@ noting-of-call call (kills id) is = absurd is
 noting-of-call call (forgets id) is = absurd is
 
 pub launching-of-call : (framework : Id) (body : Accept) (step : Step) → IsLaunching step → IsOfCall (of.Accept framework body) step
-launching-of-call framework body (launches launch tasks) is = tt
-launching-of-call framework body (sends now event) is = is
-launching-of-call framework body (resends now event) is = tt
-launching-of-call framework body (relays now event) is = is
-launching-of-call framework body (reports now index update finishes status) is = is
-launching-of-call framework body beats is = is
-launching-of-call framework body (obeys name) is = is
-launching-of-call framework body (waits event) is = is
-launching-of-call framework body (drops event) is = is
-launching-of-call framework body (releases now) is = is
-launching-of-call framework body (goes bytes) is = is
-launching-of-call framework body clears is = tt
-launching-of-call framework body (notes fault) is = tt
-launching-of-call framework body takes is = is
-launching-of-call framework body (acknowledges other) is = absurd is
-launching-of-call framework body (kills id) is = absurd is
-launching-of-call framework body (forgets id) is = is
+launching-of-call framework accept (sends now event) is = is
+launching-of-call framework accept (resends now event) is = absurd is
+launching-of-call framework accept (relays now event) is = absurd is
+launching-of-call framework accept (reports now index update finishes status) is = is
+launching-of-call framework accept beats is = is
+launching-of-call framework accept (obeys name) is = absurd is
+launching-of-call framework accept (waits other) is = is
+launching-of-call framework accept (drops event) is = absurd is
+launching-of-call framework accept (releases now) is = is
+launching-of-call framework accept (goes bytes) is = is
+launching-of-call framework accept clears is = tt
+launching-of-call framework accept (notes fault) is = tt
+launching-of-call framework accept takes is = is
+launching-of-call framework accept (launches launch tasks) is = tt
+launching-of-call framework accept (acknowledges body) is = is
+launching-of-call framework accept (kills id) is = is
+launching-of-call framework accept (forgets id) is = absurd is
 
-pub sending-of-launch : (step : Step) → IsSending step → IsLaunching step
-sending-of-launch (launches launch tasks) is = tt
-sending-of-launch (sends now event) is = is
-sending-of-launch (resends now event) is = is
-sending-of-launch (relays now event) is = is
-sending-of-launch (reports now index update finishes status) is = is
-sending-of-launch beats is = is
-sending-of-launch (obeys name) is = is
-sending-of-launch (waits event) is = is
-sending-of-launch (drops event) is = is
-sending-of-launch (releases now) is = is
-sending-of-launch (goes bytes) is = is
-sending-of-launch clears is = is
-sending-of-launch (notes fault) is = is
-sending-of-launch takes is = is
-sending-of-launch (acknowledges other) is = is
-sending-of-launch (kills id) is = is
-sending-of-launch (forgets id) is = is
+pub replying-of-launch : (step : Step) → IsReplying step → IsLaunching step
+replying-of-launch (sends now event) is = is
+replying-of-launch (resends now event) is = is
+replying-of-launch (relays now event) is = is
+replying-of-launch (reports now index update finishes status) is = is
+replying-of-launch beats is = is
+replying-of-launch (obeys name) is = is
+replying-of-launch (waits other) is = is
+replying-of-launch (drops event) is = is
+replying-of-launch (releases now) is = is
+replying-of-launch (goes bytes) is = is
+replying-of-launch clears is = is
+replying-of-launch (notes fault) is = is
+replying-of-launch takes is = is
+replying-of-launch (launches launch tasks) is = tt
+replying-of-launch (acknowledges body) is = is
+replying-of-launch (kills id) is = is
+replying-of-launch (forgets id) is = is
 
 -- a TEARDOWN does nothing that another call may not
 pub teardown-of-call : (framework : Id) (call : Call) (step : Step) → IsOfCall (of.Teardown framework) step → IsOfCall call step
 teardown-of-call framework call (sends now event) is = is
-teardown-of-call framework call (resends now event) is = is
-teardown-of-call framework call (relays now event) is = is
+teardown-of-call framework call (resends now event) is = absurd (cc)
+teardown-of-call framework call (relays now event) is = absurd (cc)
 teardown-of-call framework call (reports now index update finishes status) is = is
 teardown-of-call framework call beats is = is
-teardown-of-call framework call (obeys name) is = is
-teardown-of-call framework call (waits event) is = is
-teardown-of-call framework call (drops event) is = is
+teardown-of-call framework call (obeys name) is = absurd (cc)
+teardown-of-call framework call (waits other) is = is
+teardown-of-call framework call (drops event) is = absurd (cc)
 teardown-of-call framework call (releases now) is = is
 teardown-of-call framework call (goes bytes) is = is
 teardown-of-call framework call clears is = is
 teardown-of-call framework call (notes fault) is = is
 teardown-of-call framework call takes is = is
 teardown-of-call framework call (launches launch tasks) is = absurd is
-teardown-of-call framework call (acknowledges body) is = absurd is
-teardown-of-call framework call (kills id) is = absurd is
-teardown-of-call framework call (forgets id) is = is
+teardown-of-call framework call (acknowledges body) is = is
+teardown-of-call framework call (kills id) is = is
+teardown-of-call framework call (forgets id) is = absurd (cc)
 
 -- ---- what a call demands
 
@@ -154,9 +177,9 @@ pub with-to : {P : Step → Type 0} (steps : List Step) (a b c : LiveState) → 
 with-to steps a b c e all = record { before = all.before; after = all.after; first = all.first; last = all.last; leads = leads-to a b c _ e all.leads }
 
 -- what a call demands comes first
-pub with-begins : (call : Call) (a b : LiveState) → BeginsWith (demanded_by call) a b → StepsWith (IsOfCall call) (demanded_by call) a b
+pub with-begins : (call : Call) (a b : LiveState) → BeginsWith IsReplying (demanded_by call) a b → StepsWith (IsOfCall call) (demanded_by call) a b
 with-begins call a b begins =
-    record { before = []; after = begins.rest; first = tt; last = all-wider (sending-of-call call) begins.rest begins.sending; leads = begins.leads }
+    record { before = []; after = begins.rest; first = tt; last = all-wider (replying-of-call call) begins.rest begins.allowed; leads = begins.leads }
 
 none-by : (done : Bool) (call : Call) → demanded_by call ≡ [] → (if done then demanded_by call else []) ≡ []
 none-by true call is = is

@@ -16,11 +16,11 @@ use Rattle.mes_double_master.specs.declared.refusal.MasterRefusal.TheVariants.{N
 use Rattle.mes_msg.specs.Event.TheVariants.{Error}
 use Rattle.mes_double_live.specs.Lives.{LiveState, Pushes}
 use Rattle.mes_double_live.specs.Opening.{ChangesBy, OpensIf, Resends, beginning, opening, replacing, resending, sending, unacknowledged}
-use Rattle.mes_double_live.specs.Steps.{Step, Leads, BeginsWith, StepsTo, NeedsNone, IsOfCall, IsSending}
+use Rattle.mes_double_live.specs.Steps.{Step, Leads, BeginsWith, StepsTo, NeedsNone, IsDelivering, IsOfCall, IsReplying, IsSubscribe}
 use Rattle.mes_double_live.specs.Steps.Step.{sends, resends, beats, clears}
 use Rattle.mes_double_live.specs.declared.reply.Reply.{Reply}
 use Rattle.mes_double_live.proofs.StepLemmas.{Same, all-wider, leads-from, leads-to, leads-then, pushed-leads, same, same-by, steps-one}
-use Rattle.mes_double_live.proofs.CallLemmas.{sending-of-call}
+use Rattle.mes_double_live.proofs.CallLemmas.{delivering-of-subscribe}
 
 -- ---- steps
 
@@ -38,15 +38,15 @@ pub made-steps : {P : Step → Type 0} (step : Step) (a b : LiveState) → P ste
 made-steps step a b may makes = steps-one step a b may makes.leads
 
 -- these steps, and then events are sent
-pub makes-begins : (steps : List Step) (a b c : LiveState) → ChangesBy steps a b → StepsTo IsSending b c → BeginsWith steps a c
-makes-begins steps a b c makes after = record { rest = after.steps; sending = after.allowed; leads = leads-then a b c steps after.steps makes.leads after.leads }
+pub makes-begins : {P : Step → Type 0} (steps : List Step) (a b c : LiveState) → ChangesBy steps a b → StepsTo P b c → BeginsWith P steps a c
+makes-begins steps a b c makes after = record { rest = after.steps; allowed = after.allowed; leads = leads-then a b c steps after.steps makes.leads after.leads }
 
-pub begins-only : (steps : List Step) (a b : LiveState) → ChangesBy steps a b → BeginsWith steps a b
-begins-only steps a b makes = record { rest = []; sending = tt; leads = subst (λ (l : List Step). Leads a l b) (sym (append-nil steps)) makes.leads }
+pub begins-only : {P : Step → Type 0} (steps : List Step) (a b : LiveState) → ChangesBy steps a b → BeginsWith P steps a b
+begins-only steps a b makes = record { rest = []; allowed = tt; leads = subst (λ (l : List Step). Leads a l b) (sym (append-nil steps)) makes.leads }
 
 -- no step comes first
-pub begins-sending : (steps : List Step) (a b : LiveState) → steps ≡ [] → StepsTo IsSending a b → BeginsWith steps a b
-begins-sending steps a b none all = record { rest = all.steps; sending = all.allowed; leads = subst (λ (l : List Step). Leads a (l ++ all.steps) b) (sym none) all.leads }
+pub begins-sending : {P : Step → Type 0} (steps : List Step) (a b : LiveState) → steps ≡ [] → StepsTo P a b → BeginsWith P steps a b
+begins-sending steps a b none all = record { rest = all.steps; allowed = all.allowed; leads = subst (λ (l : List Step). Leads a (l ++ all.steps) b) (sym none) all.leads }
 
 pub sending-allowed : (P : Step → Type 0) → ((now : ℕ) (event : Event) → NeedsNone event → P (sends now event)) → (now : ℕ) (events : List Event) → AllByRecursion NeedsNone events
     → AllByRecursion P (sending now events)
@@ -54,8 +54,8 @@ sending-allowed P may now [] all = tt
 sending-allowed P may now (event ∷ events) all = (may now event all.0, sending-allowed P may now events all.1)
 
 -- events are sent, in order
-pub sent-all : (now : ℕ) (events : List Event) (a b : LiveState) → AllByRecursion NeedsNone events → ChangesBy (sending now events) a b → StepsTo IsSending a b
-sent-all now events a b all makes = record { steps = sending now events; allowed = sending-allowed IsSending (λ n e k. k) now events all; leads = makes.leads }
+pub sent-all : (now : ℕ) (events : List Event) (a b : LiveState) → AllByRecursion NeedsNone events → ChangesBy (sending now events) a b → StepsTo IsReplying a b
+sent-all now events a b all makes = record { steps = sending now events; allowed = sending-allowed IsReplying (λ n e k. k) now events all; leads = makes.leads }
 
 -- an event is sent
 pub pushed-makes : (event : Event) (a b : LiveState) → Pushes event a b → ChangesBy (sends a.time event ∷ []) a b
@@ -149,8 +149,8 @@ pub clears-first : (stream : Option (List ℕ)) (a b : LiveState) → stream ≡
 clears-first stream a b is ends = subst (λ (s : Option (List ℕ)). ChangesBy (replacing a.time s) a b) (sym is) ends
 
 pub stream-begins : (stream : Option (List ℕ)) (events : List Event) (s0 s1 s2 s3 s4 s5 : LiveState) → ChangesBy (replacing s0.time stream) s0 s1
-    → ChangesBy (sending s1.time events) s1 s2 → ChangesBy (beats ∷ []) s2 s3 → ChangesBy (resending s3.time (unacknowledged s3.master)) s3 s4 → s3.master ≡ s0.master → StepsTo IsSending s4 s5
-    → BeginsWith (replacing s0.time stream ++ beginning s0.time events (unacknowledged s0.master)) s0 s5
+    → ChangesBy (sending s1.time events) s1 s2 → ChangesBy (beats ∷ []) s2 s3 → ChangesBy (resending s3.time (unacknowledged s3.master)) s3 s4 → s3.master ≡ s0.master → StepsTo IsDelivering s4 s5
+    → BeginsWith IsDelivering (replacing s0.time stream ++ beginning s0.time events (unacknowledged s0.master)) s0 s5
 stream-begins stream events s0 s1 s2 s3 s4 s5 ended sent beat again same after =
     let first : ChangesBy (sending s0.time events) s1 s2 = subst (λ (now : ℕ). ChangesBy (sending now events) s1 s2) ended.time sent in
     let time : s3.time ≡ s0.time = beat.time ∙ sent.time ∙ ended.time in
@@ -158,37 +158,37 @@ stream-begins stream events s0 s1 s2 s3 s4 s5 ended sent beat again same after =
     subst (λ (m : MasterState). ChangesBy (resending s0.time (unacknowledged m)) s3 s4) same (subst (λ (now : ℕ). ChangesBy (resending now (unacknowledged s3.master)) s3 s4) time again) in
     let begins : ChangesBy (beginning s0.time events (unacknowledged s0.master)) s1 s4 = makes-then _ _ s1 s2 s4 first (makes-then _ _ s2 s3 s4 beat last) in
     let all = makes-then _ _ s0 s1 s4 ended begins in
-    record { rest = after.steps; sending = after.allowed; leads = leads-then s0 s4 s5 _ after.steps all.leads after.leads }
+    record { rest = after.steps; allowed = after.allowed; leads = leads-then s0 s4 s5 _ after.steps all.leads after.leads }
 
-pub begins-then : (steps : List Step) (a b c : LiveState) → BeginsWith steps a b → StepsTo IsSending b c → BeginsWith steps a c
+pub begins-then : (steps : List Step) (a b c : LiveState) → BeginsWith IsDelivering steps a b → StepsTo IsDelivering b c → BeginsWith IsDelivering steps a c
 begins-then steps a b c begins after = record {
   rest = begins.rest ++ after.steps;
-  sending = all_append IsSending begins.rest after.steps begins.sending after.allowed;
+  allowed = all_append IsDelivering begins.rest after.steps begins.allowed after.allowed;
   leads =
       subst (λ (all : List Step). Leads a all c) (append_assoc steps begins.rest after.steps)
       (leads-then a b c (steps ++ begins.rest) after.steps begins.leads after.leads);
 }
 
 -- the steps of a new stream are those of a call
-pub begins-steps : (call : Call) (steps : List Step) (a b : LiveState) → AllByRecursion (IsOfCall call) steps → BeginsWith steps a b → StepsTo (IsOfCall call) a b
-begins-steps call steps a b allowed begins =
-    let rest = all-wider (sending-of-call call) begins.rest begins.sending in
+pub begins-steps : (call : Call) (steps : List Step) (a b : LiveState) → IsSubscribe call → AllByRecursion (IsOfCall call) steps → BeginsWith IsDelivering steps a b → StepsTo (IsOfCall call) a b
+begins-steps call steps a b on allowed begins =
+    let rest = all-wider (delivering-of-subscribe call on) begins.rest begins.allowed in
     record { steps = steps ++ begins.rest; allowed = all_append (IsOfCall call) steps begins.rest allowed rest; leads = begins.leads }
 
 replacing-allowed : (call : Call) (stream : Option (List ℕ)) (now : ℕ) → AllByRecursion (IsOfCall call) (replacing now stream)
 replacing-allowed call None now = (tt, tt)
 replacing-allowed call (Some id) now = (tt, (tt, tt))
 
-resending-allowed : (call : Call) (now : ℕ) (updates : List Event) → AllByRecursion (IsOfCall call) (resending now updates)
-resending-allowed call now [] = tt
-resending-allowed call now (event ∷ events) = (tt, resending-allowed call now events)
+resending-allowed : (call : Call) (now : ℕ) (updates : List Event) → IsSubscribe call → AllByRecursion (IsOfCall call) (resending now updates)
+resending-allowed call now [] on = tt
+resending-allowed call now (event ∷ events) on = (on, resending-allowed call now events on)
 
-pub beginning-allowed : (call : Call) (stream : Option (List ℕ)) (now from : ℕ) (events updates : List Event) → AllByRecursion NeedsNone events
+pub beginning-allowed : (call : Call) (stream : Option (List ℕ)) (now from : ℕ) (events updates : List Event) → IsSubscribe call → AllByRecursion NeedsNone events
     → AllByRecursion (IsOfCall call) (replacing now stream ++ beginning from events updates)
-beginning-allowed call stream now from events updates all =
+beginning-allowed call stream now from events updates on all =
     let sent = sending-allowed (IsOfCall call) (λ n e k. k) from events all in
     all_append (IsOfCall call) (replacing now stream) (beginning from events updates) (replacing-allowed call stream now)
-    (all_append (IsOfCall call) (sending from events) (beats ∷ resending from updates) sent (tt, resending-allowed call from updates))
+    (all_append (IsOfCall call) (sending from events) (beats ∷ resending from updates) sent (tt, resending-allowed call from updates on))
 
 -- ---- SUBSCRIBE
 
@@ -221,7 +221,7 @@ subscribes m n call given status events is ok answer =
 -- the steps of a new stream are those of `opening`
 pub opens-by : (old mid new : LiveState) (stream : Option (List ℕ)) (events : List Event) → mid ≡ record old { master = mid.master }
     → stream ≡ old.master.stream → Subscribes old.master events mid.master
-    → BeginsWith (replacing mid.time stream ++ beginning mid.time events (unacknowledged mid.master)) mid new → BeginsWith (opening old) old new
+    → BeginsWith IsDelivering (replacing mid.time stream ++ beginning mid.time events (unacknowledged mid.master)) mid new → BeginsWith IsDelivering (opening old) old new
 opens-by old mid new stream events rest is by begins =
     let time : mid.time ≡ old.time = ap (λ (x : LiveState). x.time) rest in
     let all : replacing mid.time stream ++ beginning mid.time events (unacknowledged mid.master) ≡ opening old =
@@ -229,27 +229,27 @@ opens-by old mid new stream events rest is by begins =
     ∙ ap (λ (now : ℕ). replacing now old.master.stream ++ beginning now events (unacknowledged mid.master)) time
     ∙ ap (λ (l : List Event). replacing old.time old.master.stream ++ beginning old.time l (unacknowledged mid.master)) by.events_are
     ∙ ap (λ (l : List Event). replacing old.time old.master.stream ++ beginning old.time (subscribed_event old.master.framework old.master.interval ∷ []) l) by.same in
-    let at = subst (λ (steps : List Step). BeginsWith steps mid new) all begins in
+    let at = subst (λ (steps : List Step). BeginsWith IsDelivering steps mid new) all begins in
     let all_same : Same old mid = same-by old mid (record old { master = mid.master }) rest refl refl refl in
-    record { rest = at.rest; sending = at.sending; leads = leads-from old mid new _ all_same at.leads }
+    record { rest = at.rest; allowed = at.allowed; leads = leads-from old mid new _ all_same at.leads }
 
 -- ---- by the id of the stream that was opened
 
-pub opens-new : (opened : Option (List ℕ)) (m : MasterState) (old new : LiveState) → opened ≡ m.stream → BeginsWith (opening old) old new → OpensIf opened m old new
+pub opens-new : (opened : Option (List ℕ)) (m : MasterState) (old new : LiveState) → opened ≡ m.stream → BeginsWith IsDelivering (opening old) old new → OpensIf opened m old new
 opens-new None m old new is begins = tt
 opens-new (Some id) m old new is begins = (sym is, begins)
 
 pub opens-none : (opened : Option (List ℕ)) (m : MasterState) (old new : LiveState) → opened ≡ None → OpensIf opened m old new
 opens-none opened m old new e = subst (λ (x : Option (List ℕ)). OpensIf x m old new) (sym e) tt
 
-pub opens-then : (opened : Option (List ℕ)) (m : MasterState) (old mid new : LiveState) → OpensIf opened m old mid → StepsTo IsSending mid new → OpensIf opened m old new
+pub opens-then : (opened : Option (List ℕ)) (m : MasterState) (old mid new : LiveState) → OpensIf opened m old mid → StepsTo IsDelivering mid new → OpensIf opened m old new
 opens-then None m old mid new opens after = tt
 opens-then (Some id) m old mid new (is, begins) after = (is, begins-then (opening old) old mid new begins after)
 
 -- the body, the tasks and the waiting events are the same from `mid` on
 pub opens-to : (opened : Option (List ℕ)) (m : MasterState) (old mid new : LiveState) → Same mid new → OpensIf opened m old mid → OpensIf opened m old new
 opens-to None m old mid new same opens = tt
-opens-to (Some id) m old mid new same (is, begins) = (is, record { rest = begins.rest; sending = begins.sending; leads = leads-to old mid new _ same begins.leads })
+opens-to (Some id) m old mid new same (is, begins) = (is, record { rest = begins.rest; allowed = begins.allowed; leads = leads-to old mid new _ same begins.leads })
 
 -- a call that opens no stream
 pub if-plain : {E : Type 0} (result : Result Reply E) (m : MasterState) (old new : LiveState) → IfOk result (λ reply. reply.opened ≡ None) → IfOk result (λ reply. OpensIf reply.opened m old new)

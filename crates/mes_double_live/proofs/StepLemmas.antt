@@ -6,12 +6,13 @@ use Rattle.std.specs.Result.{OnOk}
 use Rattle.std.proofs.lemmas.Result.{on_ok_weaker}
 use Rattle.mes_msg.specs.Event.{Event}
 use Rattle.mes_msg.specs.Event.TheVariants.{Other}
+use Rattle.mes_msg.specs.Event.TheVariants as of
 use Rattle.mes_double_cluster.specs.declared.task.Task.{Task}
 use Rattle.mes_double_faults.specs.declared.fault.CallFault.{CallFault}
 use Rattle.mes_double_faults.specs.declared.fault.Fault.TheVariants as planned
 use Rattle.mes_double_live.specs.Bodies.{BodyState, written, Obeys, Sends}
 use Rattle.mes_double_live.specs.Lives.{LiveState, Pushes, with_first, planned_fault, next_call, noted_by, noted, call_counted, record_of}
-use Rattle.mes_double_live.specs.Steps.{Step, StepsBody, StepsTasks, StepsWaiting, LeadsBody, LeadsTasks, LeadsWaiting, Leads, StepsTo, NeedsNone, IsSending, IsResending, IsEnding, IsNoting, IsOfTime, IsTaking}
+use Rattle.mes_double_live.specs.Steps.{Step, StepsBody, StepsTasks, StepsWaiting, LeadsBody, LeadsTasks, LeadsWaiting, Leads, StepsTo, NeedsNone, IsOffers, IsSending, IsDelivering, IsReplying, IsResending, IsEnding, IsNoting, IsOfTime, IsTaking}
 use Rattle.mes_double_live.specs.Steps.Step.{sends, resends, relays, reports, beats, obeys, waits, drops, releases, goes, clears, notes, takes, launches, acknowledges, kills, forgets}
 
 -- ---- steps that follow one another
@@ -110,43 +111,92 @@ steps-one step a b may leads = record { steps = step ∷ []; allowed = (may, tt)
 pub wider-last : {P Q : Step → Type 0} → ((step : Step) → P step → Q step) → {T E : Type 0} (result : Result T E) (a b : LiveState) → OnOk result (StepsTo P a b) → OnOk result (StepsTo Q a b)
 wider-last up result a b last = on_ok_weaker result (steps-wider up a b) last
 
-pub sending-of-end : (step : Step) → IsSending step → IsEnding step
-sending-of-end (sends now event) is = is
-sending-of-end (resends now event) is = is
-sending-of-end (relays now event) is = is
-sending-of-end (reports now index update finishes status) is = is
-sending-of-end beats is = is
-sending-of-end (obeys name) is = is
-sending-of-end (waits event) is = is
-sending-of-end (drops event) is = is
-sending-of-end (releases now) is = is
-sending-of-end (goes bytes) is = is
-sending-of-end clears is = tt
-sending-of-end (notes fault) is = is
-sending-of-end takes is = is
-sending-of-end (launches launch tasks) is = is
-sending-of-end (acknowledges body) is = is
-sending-of-end (kills id) is = is
-sending-of-end (forgets id) is = is
+pub offers-need-none : (event : Event) → IsOffers event → NeedsNone event
+offers-need-none (of.Offers list) is = tt
+offers-need-none (of.Subscribed body) is = absurd is
+offers-need-none (of.Rescind body) is = absurd is
+offers-need-none (of.Update body) is = absurd is
+offers-need-none (of.Message body) is = absurd is
+offers-need-none (of.Failure body) is = absurd is
+offers-need-none (of.Error body) is = absurd is
+offers-need-none of.Heartbeat is = absurd is
+offers-need-none (of.Other name) is = absurd is
 
-pub sending-of-time : (time : ℕ) (step : Step) → IsSending step → IsOfTime time step
-sending-of-time time (sends now event) is = is
-sending-of-time time (resends now event) is = tt
-sending-of-time time (relays now event) is = is
-sending-of-time time (reports now index update finishes status) is = is
-sending-of-time time beats is = is
-sending-of-time time (obeys name) is = is
-sending-of-time time (waits event) is = is
-sending-of-time time (drops event) is = is
-sending-of-time time (releases now) is = absurd is
-sending-of-time time (goes bytes) is = is
-sending-of-time time clears is = is
-sending-of-time time (notes fault) is = is
-sending-of-time time takes is = is
-sending-of-time time (launches launch tasks) is = is
-sending-of-time time (acknowledges body) is = is
-sending-of-time time (kills id) is = is
-sending-of-time time (forgets id) is = is
+pub sending-of-delivering : (step : Step) → IsSending step → IsDelivering step
+sending-of-delivering (sends now event) is = is
+sending-of-delivering (resends now event) is = is
+sending-of-delivering (relays now event) is = tt
+sending-of-delivering (reports now index update finishes status) is = is
+sending-of-delivering beats is = is
+sending-of-delivering (obeys name) is = tt
+sending-of-delivering (waits other) is = is
+sending-of-delivering (drops event) is = absurd is
+sending-of-delivering (releases now) is = is
+sending-of-delivering (goes bytes) is = is
+sending-of-delivering clears is = is
+sending-of-delivering (notes fault) is = is
+sending-of-delivering takes is = is
+sending-of-delivering (launches launch tasks) is = is
+sending-of-delivering (acknowledges body) is = is
+sending-of-delivering (kills id) is = is
+sending-of-delivering (forgets id) is = tt
+
+pub sending-of-replying : (step : Step) → IsSending step → IsReplying step
+sending-of-replying (sends now event) is = offers-need-none event is
+sending-of-replying (resends now event) is = is
+sending-of-replying (relays now event) is = is
+sending-of-replying (reports now index update finishes status) is = is
+sending-of-replying beats is = is
+sending-of-replying (obeys name) is = is
+sending-of-replying (waits other) is = is
+sending-of-replying (drops event) is = is
+sending-of-replying (releases now) is = is
+sending-of-replying (goes bytes) is = is
+sending-of-replying clears is = is
+sending-of-replying (notes fault) is = is
+sending-of-replying takes is = is
+sending-of-replying (launches launch tasks) is = is
+sending-of-replying (acknowledges body) is = is
+sending-of-replying (kills id) is = is
+sending-of-replying (forgets id) is = is
+
+pub delivering-of-end : (step : Step) → IsDelivering step → IsEnding step
+delivering-of-end (sends now event) is = is
+delivering-of-end (resends now event) is = is
+delivering-of-end (relays now event) is = is
+delivering-of-end (reports now index update finishes status) is = is
+delivering-of-end beats is = is
+delivering-of-end (obeys name) is = is
+delivering-of-end (waits other) is = is
+delivering-of-end (drops event) is = is
+delivering-of-end (releases now) is = is
+delivering-of-end (goes bytes) is = is
+delivering-of-end clears is = tt
+delivering-of-end (notes fault) is = is
+delivering-of-end takes is = is
+delivering-of-end (launches launch tasks) is = is
+delivering-of-end (acknowledges body) is = is
+delivering-of-end (kills id) is = is
+delivering-of-end (forgets id) is = is
+
+pub delivering-of-time : (time : ℕ) (step : Step) → IsDelivering step → IsOfTime time step
+delivering-of-time time (sends now event) is = is
+delivering-of-time time (resends now event) is = tt
+delivering-of-time time (relays now event) is = is
+delivering-of-time time (reports now index update finishes status) is = is
+delivering-of-time time beats is = is
+delivering-of-time time (obeys name) is = is
+delivering-of-time time (waits other) is = is
+delivering-of-time time (drops event) is = is
+delivering-of-time time (releases now) is = absurd is
+delivering-of-time time (goes bytes) is = is
+delivering-of-time time clears is = is
+delivering-of-time time (notes fault) is = is
+delivering-of-time time takes is = is
+delivering-of-time time (launches launch tasks) is = is
+delivering-of-time time (acknowledges body) is = is
+delivering-of-time time (kills id) is = is
+delivering-of-time time (forgets id) is = is
 
 pub resending-of-time : (time : ℕ) (step : Step) → IsResending step → IsOfTime time step
 resending-of-time time (sends now event) is = absurd is
@@ -155,7 +205,7 @@ resending-of-time time (relays now event) is = absurd is
 resending-of-time time (reports now index update finishes status) is = absurd is
 resending-of-time time beats is = absurd is
 resending-of-time time (obeys name) is = absurd is
-resending-of-time time (waits event) is = absurd is
+resending-of-time time (waits other) is = absurd is
 resending-of-time time (drops event) is = absurd is
 resending-of-time time (releases now) is = absurd is
 resending-of-time time (goes bytes) is = absurd is
@@ -167,11 +217,14 @@ resending-of-time time (acknowledges body) is = absurd is
 resending-of-time time (kills id) is = absurd is
 resending-of-time time (forgets id) is = absurd is
 
+sending-of-time : (time : ℕ) (step : Step) → IsSending step → IsOfTime time step
+sending-of-time time step is = delivering-of-time time step (sending-of-delivering step is)
+
 -- bytes are released, events are sent, updates sent again, and then what a last call sends if it succeeds
-pub time-last : {T E : Type 0} (result : Result T E) (time : ℕ) (a b c d e : LiveState) → StepsTo (IsOfTime time) a b → StepsTo IsSending b c → StepsTo IsResending c d
+pub time-last : {T E : Type 0} (result : Result T E) (time : ℕ) (a b c d e : LiveState) → StepsTo (IsOfTime time) a b → StepsTo IsDelivering b c → StepsTo IsResending c d
     → OnOk result (StepsTo IsSending d e) → OnOk result (StepsTo (IsOfTime time) a e)
 time-last result time a b c d e first next again last =
-    let sent = steps-then a b c first (steps-wider (sending-of-time time) b c next) in
+    let sent = steps-then a b c first (steps-wider (delivering-of-time time) b c next) in
     let resent = steps-then a c d sent (steps-wider (resending-of-time time) c d again) in
     on_ok_weaker result (λ (rest : StepsTo IsSending d e). steps-then a d e resent (steps-wider (sending-of-time time) d e rest)) last
 
@@ -188,7 +241,7 @@ pub sent-steps : {P : Step → Type 0} (event : Event) (a b : LiveState) → P (
 sent-steps event a b may pushes = steps-one (sends a.time event) a b may (pushed-leads (sends a.time event) event a b pushes (λ x. x) (λ x. x) (λ x. x))
 
 -- the first event that waited is sent
-pub relayed-steps : (event : Event) (a b : LiveState) → Pushes event a b → StepsTo IsSending (with_first event a) b
+pub relayed-steps : (event : Event) (a b : LiveState) → Pushes event a b → StepsTo IsDelivering (with_first event a) b
 relayed-steps event a b pushes =
     let waiting : event ∷ a.waiting ≡ event ∷ b.waiting = ap (λ (x : LiveState). event ∷ x.waiting) (sym pushes.rest) in
     steps-one (relays a.time event) (with_first event a) b tt
@@ -197,15 +250,15 @@ relayed-steps event a b pushes =
 pub resent-steps : (event : Event) (a b : LiveState) → Pushes event a b → StepsTo IsResending a b
 resent-steps event a b pushes = steps-one (resends a.time event) a b tt (pushed-leads (resends a.time event) event a b pushes (λ x. x) (λ x. x) (λ x. x))
 
--- steps, and then a last call that sends an event that requires no acknowledgement if it succeeds
-pub push-last : {T E : Type 0} (result : Result T E) (event : Event) (a b c : LiveState) → NeedsNone event → StepsTo IsSending a b → OnOk result (Pushes event b c)
-    → OnOk result (StepsTo IsSending a c)
-push-last result event a b c may first last = on_ok_weaker result (λ (pushes : Pushes event b c). steps-then a b c first (sent-steps event b c may pushes)) last
+-- steps, and then a last call that sends an event if it succeeds
+pub push-last : {P : Step → Type 0} {T E : Type 0} (result : Result T E) (event : Event) (a b c : LiveState) → P (sends b.time event) → StepsTo P a b → OnOk result (Pushes event b c)
+    → OnOk result (StepsTo P a c)
+push-last {P} result event a b c may first last = on_ok_weaker result (λ (pushes : Pushes event b c). steps-then a b c first (sent-steps event b c may pushes)) last
 
 -- the state is the same up to `b`, and a last call sends the first event that waited if it succeeds
-pub relay-last : {T E : Type 0} (result : Result T E) (event : Event) (a b c : LiveState) → b ≡ a → OnOk result (Pushes event b c) → OnOk result (StepsTo IsSending (with_first event a) c)
+pub relay-last : {T E : Type 0} (result : Result T E) (event : Event) (a b c : LiveState) → b ≡ a → OnOk result (Pushes event b c) → OnOk result (StepsTo IsDelivering (with_first event a) c)
 relay-last result event a b c e last =
-    on_ok_weaker result (λ (pushes : Pushes event b c). subst (λ (x : LiveState). StepsTo IsSending (with_first event x) c) e (relayed-steps event b c pushes)) last
+    on_ok_weaker result (λ (pushes : Pushes event b c). subst (λ (x : LiveState). StepsTo IsDelivering (with_first event x) c) e (relayed-steps event b c pushes)) last
 
 -- the body, the tasks and the waiting events change by this step
 pub body-steps : {P : Step → Type 0} (step : Step) (a b : LiveState) → P step → StepsBody step a.out b.out → StepsTasks step a.cluster.tasks b.cluster.tasks → StepsWaiting step a.waiting b.waiting
@@ -213,19 +266,19 @@ pub body-steps : {P : Step → Type 0} (step : Step) (a b : LiveState) → P ste
 body-steps step a b may body tasks waiting = steps-one step a b may (leads-one step a b body tasks waiting)
 
 obeyed-by : (name : List ℕ) (done : Bool) (a b : LiveState) → done ≡ true → Obeys name a.out b.out done → b.cluster.tasks ≡ a.cluster.tasks → b.waiting ≡ a.waiting
-    → StepsTo IsSending (with_first (Other name) a) b
+    → StepsTo IsDelivering (with_first (Other name) a) b
 obeyed-by name true a b on is tasks waiting = body-steps (obeys name) (with_first (Other name) a) b tt is tasks (ap (λ (l : List Event). Other name ∷ l) (sym waiting))
 obeyed-by name false a b on is tasks waiting = absurd (cc)
 
 -- What the first event that waited demands by its name was done. `t` is the view of the fields of a live
 -- test master of the value `s`.
 pub obeyed-steps : (event : Event) (name shown : List ℕ) (done : Bool) (s t u : LiveState) → event ≡ Other name → shown ≡ name → t ≡ s → done ≡ true → Obeys shown t.out u.out done
-    → u.cluster.tasks ≡ t.cluster.tasks → u.waiting ≡ t.waiting → StepsTo IsSending (with_first event s) u
+    → u.cluster.tasks ≡ t.cluster.tasks → u.waiting ≡ t.waiting → StepsTo IsDelivering (with_first event s) u
 obeyed-steps event name shown done s t u is text view on by tasks waiting =
     let obeyed : Obeys name t.out u.out done = subst (λ (n : List ℕ). Obeys n t.out u.out done) text by in
-    let of : StepsTo IsSending (with_first (Other name) s) u =
-    subst (λ (x : LiveState). StepsTo IsSending (with_first (Other name) x) u) view (obeyed-by name done t u on obeyed tasks waiting) in
-    subst (λ (e : Event). StepsTo IsSending (with_first e s) u) (sym is) of
+    let of : StepsTo IsDelivering (with_first (Other name) s) u =
+    subst (λ (x : LiveState). StepsTo IsDelivering (with_first (Other name) x) u) view (obeyed-by name done t u on obeyed tasks waiting) in
+    subst (λ (e : Event). StepsTo IsDelivering (with_first e s) u) (sym is) of
 
 pub written-steps : (count : ℕ) (a b : LiveState) → b.out ≡ written count a.out → b.cluster.tasks ≡ a.cluster.tasks → b.waiting ≡ a.waiting → StepsTo IsTaking a b
 written-steps count a b is tasks waiting =

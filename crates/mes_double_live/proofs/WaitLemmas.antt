@@ -6,28 +6,28 @@ use Rattle.std.specs.List.{AllByRecursion, flat_map}
 use Rattle.std.specs.Result.{OnOk}
 use Rattle.mes_msg.specs.Event.{Event}
 use Rattle.mes_double_live.specs.Lives.{LiveState, with_first, with_last}
-use Rattle.mes_double_live.specs.Steps.{Step, StepsWaiting, LeadsWaiting, Leads, BeginsWith, StepsTo, IsForgetting, IsRefusable, IsSending, arrived_by, taken_by}
+use Rattle.mes_double_live.specs.Steps.{Step, StepsWaiting, LeadsWaiting, Leads, BeginsWith, StepsTo, IsForgetting, IsRescindOrUpdate, IsDelivering, arrived_by, taken_by}
 use Rattle.mes_double_live.specs.Steps.Step.{sends, resends, relays, reports, beats, obeys, waits, drops, releases, goes, clears, notes, takes, launches, acknowledges, kills, forgets}
 use Rattle.mes_double_live.proofs.StepLemmas.{all-wider, body-steps, leads-one, leads-then, steps-then}
 
-pub forgetting-of-sending : (step : Step) → IsForgetting step → IsSending step
-forgetting-of-sending (sends now sent) is = absurd is
-forgetting-of-sending (resends now sent) is = absurd is
-forgetting-of-sending (relays now sent) is = absurd is
-forgetting-of-sending (reports now index update finishes status) is = absurd is
-forgetting-of-sending beats is = absurd is
-forgetting-of-sending (obeys name) is = absurd is
-forgetting-of-sending (waits other) is = absurd is
-forgetting-of-sending (drops other) is = absurd is
-forgetting-of-sending (releases now) is = absurd is
-forgetting-of-sending (goes bytes) is = absurd is
-forgetting-of-sending clears is = absurd is
-forgetting-of-sending (notes fault) is = absurd is
-forgetting-of-sending takes is = absurd is
-forgetting-of-sending (launches launch tasks) is = absurd is
-forgetting-of-sending (acknowledges body) is = absurd is
-forgetting-of-sending (kills id) is = absurd is
-forgetting-of-sending (forgets id) is = tt
+pub forgetting-of-delivering : (step : Step) → IsForgetting step → IsDelivering step
+forgetting-of-delivering (sends now sent) is = absurd is
+forgetting-of-delivering (resends now sent) is = absurd is
+forgetting-of-delivering (relays now sent) is = absurd is
+forgetting-of-delivering (reports now index update finishes status) is = absurd is
+forgetting-of-delivering beats is = absurd is
+forgetting-of-delivering (obeys name) is = absurd is
+forgetting-of-delivering (waits other) is = absurd is
+forgetting-of-delivering (drops other) is = absurd is
+forgetting-of-delivering (releases now) is = absurd is
+forgetting-of-delivering (goes bytes) is = absurd is
+forgetting-of-delivering clears is = absurd is
+forgetting-of-delivering (notes fault) is = absurd is
+forgetting-of-delivering takes is = absurd is
+forgetting-of-delivering (launches launch tasks) is = absurd is
+forgetting-of-delivering (acknowledges body) is = absurd is
+forgetting-of-delivering (kills id) is = absurd is
+forgetting-of-delivering (forgets id) is = tt
 
 -- tasks are forgotten whatever events wait
 forgets-waiting : (event : Event) (steps : List Step) (old new : List Event) → AllByRecursion IsForgetting steps → LeadsWaiting old steps new → LeadsWaiting (event ∷ old) steps (event ∷ new)
@@ -51,39 +51,39 @@ forgets-waiting event (launches launch tasks ∷ steps) old new all leads = absu
 forgets-waiting event (acknowledges body ∷ steps) old new all leads = absurd all.0
 forgets-waiting event (kills id ∷ steps) old new all leads = absurd all.0
 
-forgotten-first : (event : Event) (a b : LiveState) → StepsTo IsForgetting a b → StepsTo IsSending (with_first event a) (with_first event b)
+forgotten-first : (event : Event) (a b : LiveState) → StepsTo IsForgetting a b → StepsTo IsDelivering (with_first event a) (with_first event b)
 forgotten-first event a b all = record {
   steps = all.steps;
-  allowed = all-wider forgetting-of-sending all.steps all.allowed;
+  allowed = all-wider forgetting-of-delivering all.steps all.allowed;
   leads = record { body = all.leads.body; tasks = all.leads.tasks; waiting = forgets-waiting event all.steps a.waiting b.waiting all.allowed all.leads.waiting };
 }
 
 -- the first event that waited is admitted, and then sent by a last call if it succeeds
-pub admitted-last : {T E : Type 0} (result : Result T E) (event : Event) (a b c : LiveState) → StepsTo IsForgetting a b → OnOk result (StepsTo IsSending (with_first event b) c)
-    → OnOk result (StepsTo IsSending (with_first event a) c)
+pub admitted-last : {T E : Type 0} (result : Result T E) (event : Event) (a b c : LiveState) → StepsTo IsForgetting a b → OnOk result (StepsTo IsDelivering (with_first event b) c)
+    → OnOk result (StepsTo IsDelivering (with_first event a) c)
 admitted-last result event a b c first last = on_ok_weaker result (steps-then (with_first event a) (with_first event b) c (forgotten-first event a b first)) last
 
 -- the first event that waited is dropped
-pub dropped-steps : (event : Event) (a b : LiveState) → StepsTo IsForgetting a b → IsRefusable event → StepsTo IsSending (with_first event a) b
+pub dropped-steps : (event : Event) (a b : LiveState) → StepsTo IsForgetting a b → IsRescindOrUpdate event → StepsTo IsDelivering (with_first event a) b
 dropped-steps event a b first may =
     steps-then (with_first event a) (with_first event b) b (forgotten-first event a b first) (body-steps (drops event) (with_first event b) b may refl refl refl)
 
 -- the event that was taken from the front is sent by a last call if it succeeds
-pub taken-last : {T E : Type 0} (result : Result T E) (event : Event) (a b c : LiveState) → a ≡ with_first event b → OnOk result (StepsTo IsSending (with_first event b) c)
-    → OnOk result (StepsTo IsSending a c)
-taken-last {T} {E} result event a b c is last = subst (λ (x : LiveState). OnOk result (StepsTo IsSending x c)) (sym is) last
+pub taken-last : {T E : Type 0} (result : Result T E) (event : Event) (a b c : LiveState) → a ≡ with_first event b → OnOk result (StepsTo IsDelivering (with_first event b) c)
+    → OnOk result (StepsTo IsDelivering a c)
+taken-last {T} {E} result event a b c is last = subst (λ (x : LiveState). OnOk result (StepsTo IsDelivering x c)) (sym is) last
 
 stored-leads : (event : Event) (a b : LiveState) → b ≡ with_last event a → Leads a (waits event ∷ []) b
 stored-leads event a b is =
     leads-one (waits event) a b (ap (λ (x : LiveState). x.out) is) (ap (λ (x : LiveState). x.cluster.tasks) is) (ap (λ (x : LiveState). x.waiting) is)
 
 -- an event joins those that wait, and then events are sent
-pub stored-begins : (event : Event) (a b c : LiveState) → b ≡ with_last event a → StepsTo IsSending b c → BeginsWith (waits event ∷ []) a c
+pub stored-begins : (event : Event) (a b c : LiveState) → b ≡ with_last event a → StepsTo IsDelivering b c → BeginsWith IsDelivering (waits event ∷ []) a c
 stored-begins event a b c is after =
-    record { rest = after.steps; sending = after.allowed; leads = leads-then a b c (waits event ∷ []) after.steps (stored-leads event a b is) after.leads }
+    record { rest = after.steps; allowed = after.allowed; leads = leads-then a b c (waits event ∷ []) after.steps (stored-leads event a b is) after.leads }
 
-pub begins-none : (a b : LiveState) → StepsTo IsSending a b → BeginsWith [] a b
-begins-none a b all = record { rest = all.steps; sending = all.allowed; leads = all.leads }
+pub begins-none : (a b : LiveState) → StepsTo IsDelivering a b → BeginsWith IsDelivering [] a b
+begins-none a b all = record { rest = all.steps; allowed = all.allowed; leads = all.leads }
 
 -- ---- the order of events
 

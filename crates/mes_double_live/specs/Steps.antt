@@ -10,7 +10,7 @@ use Rattle.mes_msg.specs.Acknowledge.{Acknowledge}
 use Rattle.mes_msg.specs.Call.{Call}
 use Rattle.mes_msg.specs.Call.TheVariants as of
 use Rattle.mes_msg.specs.Event.{Event}
-use Rattle.mes_msg.specs.Event.TheVariants.{Heartbeat, Other, Rescind, Update}
+use Rattle.mes_msg.specs.Event.TheVariants.{Heartbeat, Offers, Other, Rescind, Update}
 use Rattle.mes_msg.specs.Events as kinds
 use Rattle.mes_stream.specs.Sending.{records_of}
 use Rattle.mes_double_cluster.specs.Clusters.{status_of}
@@ -20,12 +20,12 @@ use Rattle.mes_double_cluster.specs.TaskProgress.{is_over}
 use Rattle.mes_double_cluster.specs.declared.task.Task.{Task}
 use Rattle.mes_double_faults.specs.Plans.{Plan, event_fault}
 use Rattle.mes_double_faults.specs.declared.fault.Fault.{Fault}
-use Rattle.mes_double_master.specs.Masters.{update_event}
+use Rattle.mes_double_master.specs.Masters.{is_subscribe, update_event}
 use Rattle.mes_double_live.specs.Bodies.{BodyState, cleared, released, Obeys, Sends, Beats}
 use Rattle.mes_double_live.specs.Lives.{LiveState, record_of}
 
 pub data Step : Type 0 where
-  -- an event of the test master is sent at this time
+  -- an event that did not wait is sent at this time
   sends : (now : ℕ) (event : Event) → Step
   -- an update is sent again
   resends : (now : ℕ) (event : Event) → Step
@@ -40,7 +40,7 @@ pub data Step : Type 0 where
   obeys : (name : List ℕ) → Step
   -- an event from outside joins those that wait
   waits : (event : Event) → Step
-  -- the first event that waits is dropped, since the test master refuses it
+  -- the first event that waits is dropped
   drops : (event : Event) → Step
   -- the bytes that are held may be written, if their time has come
   releases : (now : ℕ) → Step
@@ -58,7 +58,7 @@ pub data Step : Type 0 where
   acknowledges : (body : Acknowledge) → Step
   -- a task is killed
   kills : (id : Id) → Step
-  -- the task is forgotten, since others reported its last state
+  -- the tasks with this identifier are forgotten
   forgets : (id : Id) → Step
 
 -- ---- the body
@@ -147,29 +147,35 @@ abbrev pub NeedsNone : Event → Type 0
 NeedsNone (Update body) = owed_key_of body.status ≡ None
 NeedsNone _ = Unit {0}
 
--- the test master may refuse the event
-abbrev pub IsRefusable : Event → Type 0
-IsRefusable (Rescind body) = Unit {0}
-IsRefusable (Update body) = Unit {0}
-IsRefusable _ = ⊥
+abbrev pub IsOffers : Event → Type 0
+IsOffers (Offers list) = Unit {0}
+IsOffers _ = ⊥
 
--- Events are sent, those that wait in order, and what they demand is done. An update that requires an
--- acknowledgement is the next of a task, or waited.
+abbrev pub IsRescindOrUpdate : Event → Type 0
+IsRescindOrUpdate (Rescind body) = Unit {0}
+IsRescindOrUpdate (Update body) = Unit {0}
+IsRescindOrUpdate _ = ⊥
+
+-- what is due is sent: next states of tasks, HEARTBEATs, and OFFERS
 abbrev pub IsSending : Step → Type 0
-IsSending (sends now event) = NeedsNone event
-IsSending (relays now event) = Unit {0}
+IsSending (sends now event) = IsOffers event
 IsSending (reports now index update finishes status) = Unit {0}
 IsSending beats = Unit {0}
-IsSending (obeys name) = Unit {0}
-IsSending (drops event) = IsRefusable event
-IsSending (forgets id) = Unit {0}
 IsSending _ = ⊥
 
--- the state changes by these steps first, and then only by events that are sent
-pub record BeginsWith (steps : List Step) (old new : LiveState) : Type 0 where
-  pub rest : List Step
-  pub sending : AllByRecursion IsSending rest
-  pub leads : Leads old (steps ++ rest) new
+-- Events that wait are taken too: an event is sent, or what it demands is done, or it is dropped. The
+-- task whose last state an UPDATE reports is forgotten.
+abbrev pub IsDelivering : Step → Type 0
+IsDelivering (relays now event) = Unit {0}
+IsDelivering (obeys name) = Unit {0}
+IsDelivering (drops event) = IsRescindOrUpdate event
+IsDelivering (forgets id) = Unit {0}
+IsDelivering step = IsSending step
+
+-- the stream also ends
+abbrev pub IsEnding : Step → Type 0
+IsEnding clears = Unit {0}
+IsEnding step = IsDelivering step
 
 -- tasks are forgotten
 abbrev pub IsForgetting : Step → Type 0
@@ -181,57 +187,58 @@ abbrev pub IsResending : Step → Type 0
 IsResending (resends now event) = Unit {0}
 IsResending _ = ⊥
 
--- the stream also ends
-abbrev pub IsEnding : Step → Type 0
-IsEnding clears = Unit {0}
-IsEnding step = IsSending step
-
 -- a planned fault is noted
 abbrev pub IsNoting : Step → Type 0
 IsNoting (notes fault) = Unit {0}
 IsNoting _ = ⊥
 
+-- a call also has events sent that require no acknowledgement
+abbrev pub IsReplying : Step → Type 0
+IsReplying (sends now event) = NeedsNone event
+IsReplying step = IsSending step
+
 -- ACCEPT also launches tasks
 abbrev pub IsLaunching : Step → Type 0
 IsLaunching (launches launch tasks) = Unit {0}
-IsLaunching step = IsSending step
+IsLaunching step = IsReplying step
 
 abbrev pub IsAccept : Call → Type 0
 IsAccept (of.Accept framework body) = Unit {0}
 IsAccept _ = ⊥
 
--- the call is an ACKNOWLEDGE with this body
-abbrev pub IsAcknowledge : Call → Acknowledge → Type 0
-IsAcknowledge (of.Acknowledge framework body) other = other ≡ body
-IsAcknowledge _ other = ⊥
+abbrev pub IsSubscribe : Call → Type 0
+IsSubscribe call = is_subscribe call ≡ true
 
--- the call is a KILL of this task
-abbrev pub IsKill : Call → Id → Type 0
-IsKill (of.Kill framework body) id = id ≡ body.task_id
-IsKill _ id = ⊥
-
--- A call also has its planned fault noted, ends a stream, and has updates sent again. Only ACCEPT
--- launches tasks, and only ACKNOWLEDGE and KILL acknowledge and kill, what they name.
+-- A call also has its planned fault noted, and may end a stream. Only ACCEPT launches tasks, and only
+-- SUBSCRIBE has updates sent again, and takes events that wait.
 abbrev pub IsOfCall : Call → Step → Type 0
-IsOfCall call (resends now event) = Unit {0}
+IsOfCall call (resends now event) = IsSubscribe call
+IsOfCall call (relays now event) = IsSubscribe call
+IsOfCall call (obeys name) = IsSubscribe call
+IsOfCall call (drops event) = IsSubscribe call × IsRescindOrUpdate event
+IsOfCall call (forgets id) = IsSubscribe call
 IsOfCall call clears = Unit {0}
 IsOfCall call (notes fault) = Unit {0}
 IsOfCall call (launches launch tasks) = IsAccept call
-IsOfCall call (acknowledges body) = IsAcknowledge call body
-IsOfCall call (kills id) = IsKill call id
-IsOfCall call step = IsSending step
+IsOfCall call step = IsReplying step
 
--- what an ACKNOWLEDGE or a KILL demands that is carried out
+-- the state changes by these steps first, and then only by steps that are allowed
+pub record BeginsWith (IsAllowed : Step → Type 0) (steps : List Step) (old new : LiveState) : Type 0 where
+  pub rest : List Step
+  pub allowed : AllByRecursion IsAllowed rest
+  pub leads : Leads old (steps ++ rest) new
+
+-- the step that a carried out ACKNOWLEDGE or KILL has
 abbrev pub demanded_by : Call → List Step
 demanded_by (of.Acknowledge framework body) = acknowledges body ∷ []
 demanded_by (of.Kill framework body) = kills body.task_id ∷ []
 demanded_by _ = []
 
--- what a call demands that has this status
+-- the step that a call has whose response has this status
 abbrev pub demanded : Call → ℕ → List Step
 demanded call status = if status == 202 then demanded_by call else []
 
--- these steps are among those that lead from one state to another, and the others are allowed
+-- the state changes by these steps, and before and after them only by steps that are allowed
 pub record StepsWith (IsAllowed : Step → Type 0) (steps : List Step) (old new : LiveState) : Type 0 where
   pub before : List Step
   pub after : List Step
@@ -243,7 +250,7 @@ pub record StepsWith (IsAllowed : Step → Type 0) (steps : List Step) (old new 
 abbrev pub IsOfTime : ℕ → Step → Type 0
 IsOfTime time (resends now event) = Unit {0}
 IsOfTime time (releases now) = now ≡ time
-IsOfTime time step = IsSending step
+IsOfTime time step = IsDelivering step
 
 -- bytes, or the faults that happened, are taken
 abbrev pub IsTaking : Step → Type 0

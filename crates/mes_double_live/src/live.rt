@@ -2,7 +2,7 @@
 //! `following.rt` does what other calls demand. `telling.rt` takes the events from outside,
 //! `reporting.rt` sends updates, `logging.rt` sends events and logs them, and `reading.rt` has the
 //! read access to the state.
-ghost use Rattle.std.specs.Prelude.{◌≡◌, ◌≤◌, [], ◌∷◌, true, is_some, option_copied, IfOk, OnOk};
+ghost use Rattle.std.specs.Prelude.{◌≡◌, ◌≤◌, [], ◌∷◌, true, false, is_some, option_copied, IfOk, OnOk};
 ghost use Rattle.mes_double_cluster.specs.Clusters.{offer_at};
 ghost use Rattle.mes_double_live.specs.Bodies.{empty, written, breaks_now, released};
 ghost use Rattle.mes_double_live.specs.Lives.{at_time, broke, faults_taken, new_live};
@@ -233,6 +233,9 @@ impl Live {
         ensures moves { Moves self.old.master self.new.master }
         ensures steps { OnOk result (StepsTo (IsOfTime (at_time now self.old).time)
             self.old self.new) }
+        // Without a stream only the time changes.
+        ensures alone { OnOk result (is_some self.old.master.stream ≡ false
+            → self.new ≡ at_time now self.old) }
     {
         self.note_time(now);
         if !self.has_stream() {
@@ -309,6 +312,7 @@ impl Live {
         ensures steps { OnOk result (StepsTo IsSending self.old self.new) }
         ensures beats { OnOk result (is_some self.old.master.stream ≡ true
             → ChangesBy (beats ∷ []) self.old self.new) }
+        ensures alone { is_some self.old.master.stream ≡ false → self.new ≡ self.old }
     {
         if !self.has_stream() {
             return Ok(());

@@ -64,11 +64,12 @@ pub fn stream_laws()
 
 /// Proves what a [`Live`](crate::Live) reports of the tasks that were launched. They change only by
 /// the steps that a method is allowed, and the next state of a task is sent in an UPDATE by the same
-/// step (`reports`) that notes it.
+/// step (`reports`) that notes it. Updates that are sent again, come from outside, or require no
+/// acknowledgement are not meant.
 ///
 /// - From a new test master on, the states that were reported of a task are STARTING, RUNNING and a
 ///   last state, in this order, up to its present state.
-/// - No state of a task is reported while an update of it waits for its acknowledgement.
+/// - No state of a task is reported while the report before it waits for its acknowledgement.
 pub fn task_laws()
     // The steps of two calls, one after the other, lead from the first tasks to the last.
     ensures then { (a b c : List Task) (first next : List Step) → LeadsTasks a first b
@@ -80,20 +81,21 @@ pub fn task_laws()
     ensures course { (steps : List Step) (tasks : List Task) (i : ℕ) (r : Reported)
         → LeadsTasks [] steps tasks → slice_get (reported steps) i ≡ some r
         → r.told ≡ told_until r.task.progress.state }
-    // A task is reported only when none of its updates waits for an acknowledgement.
+    // A task is reported only when no report of it waits for an acknowledgement.
     ensures waits { (now index update : ℕ) (finishes : option ℕ) (status : TaskStatus)
         (old new : List Task) (t : Task) → StepsTasks (reports now index update finishes status) old new
         → slice_get old index ≡ some t → t.progress.waiting ≡ none }
 {}
 
-/// Proves that a [`Live`](crate::Live) sends the events from outside in order, and loses none: those
-/// that waited and those that came are, in order, those that were sent, obeyed or dropped, followed
-/// by those that wait. A dropped one is a RESCIND or an UPDATE that the test master refused.
+/// Proves that a [`Live`](crate::Live) takes the events from outside in order: those that waited and
+/// those that came are, in order, those that were sent, obeyed or dropped, followed by those that
+/// wait. Only a RESCIND or an UPDATE is dropped. What is sent on a stream can be lost there, by a
+/// fault, MUTE or BREAK.
 pub fn waiting_laws()
     // The steps of two calls, one after the other, lead from the first events to the last.
     ensures then { (a b c : List event) (first next : List Step) → LeadsWaiting a first b
         → LeadsWaiting b next c → LeadsWaiting a (first ++ next) c }
-    // No event is lost, and none overtakes another.
+    // What waited and what came are what was taken and what waits.
     ensures order { (old new : List event) (steps : List Step) → LeadsWaiting old steps new
         → old ++ flat_map arrived_by steps ≡ flat_map taken_by steps ++ new }
 {}

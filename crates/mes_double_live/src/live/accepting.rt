@@ -6,7 +6,7 @@ ghost use Rattle.mes_session_state.specs.Calls.{accept_call};
 ghost use Rattle.mes_double_master.specs.Masters.{named, handled};
 ghost use Rattle.mes_double_live.specs.Lives.{OpensBy};
 ghost use Rattle.mes_double_live.specs.Moving.{Moves};
-ghost use Rattle.mes_double_live.specs.Steps.{StepsTo, IsSending, IsLaunching};
+ghost use Rattle.mes_double_live.specs.Steps.{StepsTo, IsLaunching, IsReplying};
 
 use super::Live;
 use crate::fault::LiveFault;
@@ -97,7 +97,7 @@ impl Live {
 
     fn send_statuses(&mut self, statuses: &[TaskStatus]) -> Result<(), LiveFault>
         ensures same { self.new.master ≡ self.old.master }
-        ensures steps { OnOk result (StepsTo IsSending self.old self.new) }
+        ensures steps { OnOk result (StepsTo IsReplying self.old self.new) }
     {
         for status in statuses {
             self.send_status(status)?;

@@ -7,7 +7,7 @@ ghost use Rattle.mes_double_live.specs.Lives.{OpensBy, call_counted, call_status
 ghost use Rattle.mes_double_live.specs.Logs.{call_answered, IsLogged};
 ghost use Rattle.mes_double_live.specs.Moving.{Moves};
 ghost use Rattle.mes_double_live.specs.Opening.{ChangesBy, OpensIf, beginning, opening, replacing, sending, unacknowledged};
-ghost use Rattle.mes_double_live.specs.Steps.{BeginsWith, StepsTo, StepsWith, NeedsNone, IsNoting, IsOfCall, demanded, demanded_by};
+ghost use Rattle.mes_double_live.specs.Steps.{BeginsWith, StepsTo, StepsWith, NeedsNone, IsDelivering, IsNoting, IsOfCall, demanded, demanded_by};
 ghost use Rattle.mes_double_live.specs.Steps.Step.{clears};
 
 use super::{Live, MAX_AHEAD};
@@ -273,7 +273,7 @@ impl Live {
     ) -> Result<Option<EndedStream>, LiveFault>
         requires { is_some self.old.master.stream ≡ true }
         ensures moves { Moves self.old.master self.new.master }
-        ensures begins { OnOk result (BeginsWith (replacing self.old.time old
+        ensures begins { OnOk result (BeginsWith IsDelivering (replacing self.old.time old
             ++ beginning self.old.time events.now (unacknowledged self.old.master)) self.old
             self.new) }
     {

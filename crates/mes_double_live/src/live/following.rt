@@ -1,7 +1,7 @@
 //! What a live test master does after a call that the test master carried out.
 ghost use Rattle.std.specs.Prelude.{◌≡◌, [], ◌∷◌, OnOk};
 ghost use Rattle.mes_double_live.specs.Opening.{ChangesBy};
-ghost use Rattle.mes_double_live.specs.Steps.{BeginsWith, StepsTo, IsSending, demanded_by};
+ghost use Rattle.mes_double_live.specs.Steps.{BeginsWith, StepsTo, IsReplying, demanded_by};
 ghost use Rattle.mes_double_live.specs.Steps.Step.{acknowledges, kills};
 
 use super::Live;
@@ -16,7 +16,7 @@ impl Live {
     /// Changes the cluster as a call demands that the master carried out, and sends what follows.
     pub(super) fn follow(&mut self, call: &Call) -> Result<(), LiveFault>
         ensures same { self.new.master ≡ self.old.master }
-        ensures begins { OnOk result (BeginsWith (demanded_by call.now) self.old self.new) }
+        ensures begins { OnOk result (BeginsWith IsReplying (demanded_by call.now) self.old self.new) }
     {
         match call {
             Call::Decline { body, .. } => {
@@ -59,7 +59,7 @@ impl Live {
     fn kill(&mut self, body: &Kill) -> Result<(), LiveFault>
         ensures same { self.new.master ≡ self.old.master }
         ensures begins { OnOk result
-            (BeginsWith (kills body.now.task_id ∷ []) self.old self.new) }
+            (BeginsWith IsReplying (kills body.now.task_id ∷ []) self.old self.new) }
     {
         let is_known = self.kill_task(&body.task_id);
         if is_known || self.is_reported_alive(&body.task_id) {
@@ -87,7 +87,7 @@ impl Live {
     /// Sends an UPDATE of each of these tasks that has no status.
     fn reconcile_unknown(&mut self, tasks: &[TaskRef]) -> Result<(), LiveFault>
         ensures same { self.new.master ≡ self.old.master }
-        ensures steps { OnOk result (StepsTo IsSending self.old self.new) }
+        ensures steps { OnOk result (StepsTo IsReplying self.old self.new) }
     {
         for task in tasks {
             self.reconcile_task(task)?;
@@ -98,7 +98,7 @@ impl Live {
     /// Sends an UPDATE of this task if it has no status.
     fn reconcile_task(&mut self, task: &TaskRef) -> Result<(), LiveFault>
         ensures same { self.new.master ≡ self.old.master }
-        ensures steps { OnOk result (StepsTo IsSending self.old self.new) }
+        ensures steps { OnOk result (StepsTo IsReplying self.old self.new) }
     {
         if self.master.last_status(&task.task_id).is_some() {
             return Ok(());
@@ -109,7 +109,7 @@ impl Live {
     /// Reports a task that nobody knows as lost.
     fn send_unknown(&mut self, task: &Id, agent: Option<&Id>) -> Result<(), LiveFault>
         ensures same { self.new.master ≡ self.old.master }
-        ensures steps { OnOk result (StepsTo IsSending self.old self.new) }
+        ensures steps { OnOk result (StepsTo IsReplying self.old self.new) }
     {
         let status = task_unknown(self.alloc, task, agent)?;
         self.send_status(&status)
@@ -119,7 +119,7 @@ impl Live {
     /// no acknowledgement, so it has no uuid.
     pub(super) fn send_status(&mut self, status: &TaskStatus) -> Result<(), LiveFault>
         ensures same { self.new.master ≡ self.old.master }
-        ensures steps { OnOk result (StepsTo IsSending self.old self.new) }
+        ensures steps { OnOk result (StepsTo IsReplying self.old self.new) }
     {
         let mut status = status.copy(self.alloc)?;
         status.uuid = None;
@@ -130,7 +130,7 @@ impl Live {
     /// Sends the FAILURE of an executor that was shut down.
     fn shut_down(&mut self, body: &Shutdown) -> Result<(), LiveFault>
         ensures same { self.new.master ≡ self.old.master }
-        ensures steps { OnOk result (StepsTo IsSending self.old self.new) }
+        ensures steps { OnOk result (StepsTo IsReplying self.old self.new) }
     {
         let failure = Failure {
             agent_id: Some(body.agent_id.copy(self.alloc)?),

@@ -1,9 +1,9 @@
 //! How a live test master takes events from outside.
-ghost use Rattle.std.specs.Prelude.{◌≡◌, [], ◌∷◌, true, false, IfOk, OnOk};
-ghost use Rattle.mes_double_live.specs.Arriving.{arriving, is_busy, waits_first};
+ghost use Rattle.std.specs.Prelude.{◌≡◌, [], ◌∷◌, true, false, is_some, IfOk, OnOk};
+ghost use Rattle.mes_double_live.specs.Arriving.{WaitsAlone, arriving, is_busy, waits_first};
 ghost use Rattle.mes_double_live.specs.Lives.{one_more_busy, with_first, with_last, with_stock, with_taken};
 ghost use Rattle.mes_double_live.specs.Moving.{Moves};
-ghost use Rattle.mes_double_live.specs.Steps.{BeginsWith, StepsTo, IsForgetting, IsRefusable, IsSending};
+ghost use Rattle.mes_double_live.specs.Steps.{BeginsWith, StepsTo, IsDelivering, IsForgetting, IsRescindOrUpdate};
 ghost use Rattle.mes_double_live.specs.Steps.Step.{waits};
 
 use super::Live;
@@ -28,7 +28,10 @@ impl Live {
         // The test master changes only by its own deeds, and what these launch fits.
         ensures moves { Moves self.old.master self.new.master }
         // An event that is to be sent joins those that wait.
-        ensures arrives { OnOk result (BeginsWith (arriving event) self.old self.new) }
+        ensures arrives { OnOk result (BeginsWith IsDelivering (arriving event) self.old self.new) }
+        // Without a stream it waits, and nothing else changes.
+        ensures alone { OnOk result (is_some self.old.master.stream ≡ false
+            → WaitsAlone (arriving event) self.old self.new) }
         // After a BUSY one more call gets the status 503, and nothing else changes.
         ensures busy { is_busy event ≡ true → self.new ≡ one_more_busy self.old }
     {
@@ -45,7 +48,9 @@ impl Live {
     /// Has one more call answered with 503 for a BUSY, or takes another event.
     fn take_other(&mut self, event: Event) -> Result<(), LiveFault>
         ensures moves { Moves self.old.master self.new.master }
-        ensures arrives { OnOk result (BeginsWith (waits_first event) self.old self.new) }
+        ensures arrives { OnOk result (BeginsWith IsDelivering (waits_first event) self.old self.new) }
+        ensures alone { OnOk result (is_some self.old.master.stream ≡ false
+            → WaitsAlone (waits_first event) self.old self.new) }
         ensures busy { is_busy event ≡ true → self.new ≡ one_more_busy self.old }
     {
         if is_busy(&event) {
@@ -75,7 +80,10 @@ impl Live {
     /// events wait.
     fn take(&mut self, event: Event) -> Result<(), LiveFault>
         ensures moves { Moves self.old.master self.new.master }
-        ensures arrives { OnOk result (BeginsWith (waits event ∷ []) self.old self.new) }
+        ensures arrives { OnOk result
+            (BeginsWith IsDelivering (waits event ∷ []) self.old self.new) }
+        ensures alone { OnOk result (is_some self.old.master.stream ≡ false
+            → self.new ≡ with_last event self.old) }
     {
         let is_first = self.waiting.is_empty();
         self.store(event)?;
@@ -101,7 +109,7 @@ impl Live {
     /// that reads its stream receives any number of them in little memory.
     pub(super) fn deliver_waiting(&mut self, most: usize) -> Result<(), LiveFault>
         ensures moves { Moves self.old.master self.new.master }
-        ensures steps { OnOk result (StepsTo IsSending self.old self.new) }
+        ensures steps { OnOk result (StepsTo IsDelivering self.old self.new) }
     {
         for _ in 0..self.waiting.len() {
             if !self.out.takes_more(most) {
@@ -115,7 +123,7 @@ impl Live {
     /// Sends the first event that waited for a stream, if there is one.
     fn deliver_first(&mut self) -> Result<(), LiveFault>
         ensures moves { Moves self.old.master self.new.master }
-        ensures steps { OnOk result (StepsTo IsSending self.old self.new) }
+        ensures steps { OnOk result (StepsTo IsDelivering self.old self.new) }
     {
         match self.take_first() {
             Some(event) => self.deliver(&event),
@@ -134,7 +142,7 @@ impl Live {
     /// Sends an event from outside, which waited until now, on the current stream.
     fn deliver(&mut self, event: &Event) -> Result<(), LiveFault>
         ensures moves { Moves self.old.master self.new.master }
-        ensures steps { OnOk result (StepsTo IsSending (with_first event.now self.old) self.new) }
+        ensures steps { OnOk result (StepsTo IsDelivering (with_first event.now self.old) self.new) }
     {
         if self.admit(event)? {
             self.send(event)
@@ -147,7 +155,7 @@ impl Live {
     fn admit(&mut self, event: &Event) -> Result<bool, NoMemory>
         ensures moves { Moves self.old.master self.new.master }
         ensures steps { OnOk result (StepsTo IsForgetting self.old self.new) }
-        ensures refuses { IfOk result (λ admits. admits ≡ false → IsRefusable event.now) }
+        ensures refuses { IfOk result (λ admits. admits ≡ false → IsRescindOrUpdate event.now) }
     {
         match event {
             Event::Rescind(body) => self.note_rescind(&body.offer_id),
@@ -159,7 +167,7 @@ impl Live {
     /// Sends an event, or does what its name demands of the stream.
     fn send(&mut self, event: &Event) -> Result<(), LiveFault>
         ensures same { self.new.master ≡ self.old.master }
-        ensures steps { OnOk result (StepsTo IsSending (with_first event.now self.old) self.new) }
+        ensures steps { OnOk result (StepsTo IsDelivering (with_first event.now self.old) self.new) }
     {
         if self.obeys(event) {
             return Ok(());
@@ -170,7 +178,7 @@ impl Live {
     /// Does what the name of an event demands of the stream. Returns false if it demands nothing.
     fn obeys(&mut self, event: &Event) -> bool
         ensures same { self.new.master ≡ self.old.master }
-        ensures steps { result ≡ true → StepsTo IsSending (with_first event.now self.old) self.new }
+        ensures steps { result ≡ true → StepsTo IsDelivering (with_first event.now self.old) self.new }
         ensures ignored { result ≡ false → self.new ≡ self.old }
     {
         match event {

@@ -19,7 +19,7 @@ pub returns-clause-steps : goal.returns-clause-steps
 returns-clause-steps c =
     let none =
     subst (AllByRecursion NeedsNone) (sym c.as_slice.ensures.value) (subst (AllByRecursion NeedsNone) (sym c.in_ok-answer.ensures.answered.events_are) (handled-needs c.args.self.now.master c.args.call.now (option_copied c.args.stream))) in
-    plain-with _ _ _ _ (subscribe-demands _ c.requires.subscribe) (steps-from _ _ _ (same-by _ _ _ c.handle.ensures.rest refl refl refl) (begins-steps _ _ _ _ (beginning-allowed _ _ _ _ _ _ none) c.in_ok-ended.ensures.begins))
+    plain-with _ _ _ _ (subscribe-demands _ c.requires.subscribe) (steps-from _ _ _ (same-by _ _ _ c.handle.ensures.rest refl refl refl) (begins-steps _ _ _ _ c.requires.subscribe (beginning-allowed _ _ _ _ _ _ c.requires.subscribe none) c.in_ok-ended.ensures.begins))
 
 pub returns-clause-opens : goal.returns-clause-opens
 returns-clause-opens c =
