@@ -9,12 +9,16 @@ use Rattle.mes_msg.specs.Texts.{IsTextOf, IsFaultOf}
 use Rattle.mes_msg.specs.RecordFault.{RecordFault}
 use Rattle.mes_msg.specs.RecordFault.TheVariants as record_fault
 use Rattle.mes_double_http.specs.declared.request.Request.{Request}
+use Rattle.mes_double_master.specs.Masters.{handled}
 use Rattle.mes_double_master.specs.Runs.{master_with}
 use Rattle.mes_double_live.specs.Bodies.{empty}
 use Rattle.mes_frame.specs.declared.limits.TheConstants.{MIN_CHUNK, MAX_CHUNK}
 use Rattle.mes_double_faults.specs.Plans.{Plan}
-use Rattle.mes_double_live.specs.Lives.{LiveState, OpensBy, new_live, call_status, reply_fault}
+use Rattle.mes_double_live.specs.Arriving.{arriving}
+use Rattle.mes_double_live.specs.Lives.{LiveState, OpensBy, new_live, call_counted, call_status, reply_fault}
 use Rattle.mes_double_live.specs.Moving.{Moves, IsSafe}
+use Rattle.mes_double_live.specs.Opening.{OpensIf}
+use Rattle.mes_double_live.specs.Steps.{BeginsWith, StepsWith, IsDelivering, IsOfCall, demanded}
 use Rattle.mes_double_live.specs.declared.reply.Reply.{Reply}
 use Rattle.mesosev_net.specs.Given.{test_framework}
 use Rattle.mesosev_net.specs.StreamIds.{ids_from}
@@ -37,20 +41,28 @@ IsNoCall body = (fault : RecordFault) × IsFaultOf call body fault × (fault ≢
 abbrev pub IsNoEvent : List ℕ → Type 0
 IsNoEvent body = (fault : RecordFault) × IsFaultOf event body fault × (fault ≢ record_fault.NoMemory)
 
--- The body of a request to `/fault` is an event, and the response has status 202; or it is none, the
--- status is 400, and nothing is changed.
+-- The body of a request to `/fault` is an event, the event is taken as one from outside, and the
+-- response has status 202; or it is none, the status is 400, and nothing is changed.
 abbrev pub TakesEvent : LiveState → List ℕ → LiveState → ℕ → Type 0
 TakesEvent old body new status =
-    ((e : Event) × IsTextOf event body e × Moves old.master new.master × (status ≡ 202))
+    ((e : Event) × IsTextOf event body e × Moves old.master new.master × BeginsWith IsDelivering (arriving e) old new × (status ≡ 202))
     ⊎ (IsNoEvent body × (new ≡ old) × (status ≡ 400))
 
--- The response to a request has the status of the test master's response to the call in its body, or
--- that of the call's fault, or 400 if the body is no call. The fault says what happens to the
--- connection. Only a response with status 200 opens a stream.
+-- The response to a call has the status of the test master's response, or that of the call's fault,
+-- which says what happens to the connection. The steps are those of the call, and a stream that is
+-- opened begins as it must.
+pub record RespondsToCall (old : LiveState) (c : Call) (stream : Option (List ℕ)) (new : LiveState) (reply : Reply) : Type 0 where
+  pub status : reply.status ≡ call_status old c stream
+  pub fault : reply.fault ≡ reply_fault old
+  pub steps : StepsWith (IsOfCall c) (demanded c reply.status) old new
+  pub opens : OpensIf reply.opened (handled old.master c stream).master (call_counted old) new
+
+-- The response to a request is that to the call in its body; or the body is no call, the status is
+-- 400, and nothing is changed. Only a response with status 200 opens a stream.
 abbrev pub RespondsTo : LiveState → Request → LiveState → Reply → Type 0
 RespondsTo old request new reply =
-    (((c : Call) × IsTextOf call request.body.items c × (reply.status ≡ call_status old c request.stream) × (reply.fault ≡ reply_fault old))
-    ⊎ (IsNoCall request.body.items × (reply.status ≡ 400) × (reply.fault ≡ None)))
+    (((c : Call) × IsTextOf call request.body.items c × RespondsToCall old c request.stream new reply)
+    ⊎ (IsNoCall request.body.items × (reply.status ≡ 400) × (reply.fault ≡ None) × (new ≡ old)))
     × OpensBy reply.opened reply.status
 
 -- the ids of the streams of one run
