@@ -1,5 +1,6 @@
--- On every course, the tasks that an arrival launched fit the offers that the arrival took.
-use Rattle.std.proofs.Common.{◌≡◌, ℕ, ◌+◌, ◌≤◌, Bool, true, false, ◌||◌, not, ◌⊎◌, inl, inr, filter, map, slice_get, List, [], ◌∷◌, ◌++◌, Some, None, refl, sym, ap, subst, ◌∙◌, arith}
+-- On every course, the tasks that an arrival launched fit the offers that the arrival took, and are of
+-- their agent.
+use Rattle.std.proofs.Common.{◌≡◌, ℕ, ◌+◌, ◌≤◌, Bool, true, false, ◌||◌, not, if◌then◌else◌, ◌⊎◌, inl, inr, filter, map, slice_get, List, [], ◌∷◌, ◌++◌, Some, None, refl, sym, ap, subst, ◌∙◌, arith}
 use Rattle.std.specs.List.{list_all}
 use Rattle.std.specs.List.Sorted.{IsPermutation}
 use Rattle.std.specs.Str.{bytes_eq}
@@ -7,6 +8,7 @@ use Rattle.std.proofs.lemmas.Grind.{flat_map-append}
 use Rattle.std.proofs.lemmas.Slice.Eq.{bytes_eq-Decides}
 use Rattle.mes_model.specs.Id.{Id}
 use Rattle.mes_model.specs.Offer.{Offer}
+use Rattle.mes_model.specs.TaskInfo.{TaskInfo}
 use Rattle.mes_model.specs.TaskStatus.{TaskStatus}
 use Rattle.mes_msg.specs.Event.{Event}
 use Rattle.mes_msg.specs.Event.TheVariants as event
@@ -17,12 +19,13 @@ use Rattle.mes_msg.specs.declared.entry.Entry.TheVariants.{Heard, Said}
 use Rattle.mes_session_fit.specs.Fits.{Fits}
 use Rattle.mes_session_fit.specs.Launched.{launched, launched_by}
 use Rattle.mes_session_fit.proofs.FitsLemmas.{fits-none}
-use Rattle.mes_session_state.specs.declared.refusal.Refusal.TheVariants.{NamedTwice, Exceeds}
+use Rattle.mes_session_state.specs.declared.refusal.Refusal.TheVariants.{NamedTwice, TwoAgents, WrongAgent, Exceeds}
 use Rattle.mes_session_state.specs.Held.{Held, name_of, names, with_offers, without_offer}
 use Rattle.mes_session_state.specs.Calls.{named_by, accepted_by, tasks_of}
 use Rattle.mes_session_state.specs.Refusals.{Answers, is_duplicated, offers_named}
 use Rattle.mes_session.specs.History.{offers_of, takes_offer}
-use Rattle.mes_double_master.specs.Masters.{MasterState, MasterAnswer, plain, subscribed, accepted, reconciled_event, update_event, asked_for, is_there, all_there, carried_out, handled}
+use Rattle.mes_double_master.specs.Agents.{are_there}
+use Rattle.mes_double_master.specs.Masters.{MasterState, MasterAnswer, plain, subscribed, accepted, reconciled_event, update_event, asked_for, is_there, all_there, carried_out, handled, launchable, new_tasks}
 use Rattle.mes_double_master.specs.Sending.{offer_ids, is_duplicate, made}
 use Rattle.mes_double_master.proofs.AgainLemmas.{IsOpen, carried}
 use Rattle.mes_double_master.proofs.FitLemmas.{fits-nothing, fits-ran}
@@ -30,17 +33,25 @@ use Rattle.mes_double_master.proofs.RunLemmas.{times}
 use Rattle.mes_double.specs.declared.moves.Move.{Move}
 use Rattle.mes_double.specs.declared.sent.Sent.{Sent}
 use Rattle.mes_double.specs.Courses.{Arrival, Course, begun, Leads, IsCourse}
-use Rattle.mes_double.specs.Promises.{WhatRanFits}
+use Rattle.mes_double.specs.Promises.{WhatRanFits, WhatRanIsThere}
 use Rattle.mes_double.proofs.ListLemmas.{front-or-last}
 use Rattle.mes_double.proofs.CountLemmas.{count, count-filter, count-with, names-alike, new-apart}
 use Rattle.mes_double.proofs.HandLemmas.{brought}
 use Rattle.mes_double.proofs.AlikeLemmas.{AllSame, same-append, same-front, same-back, same-filter, same-with, same-each, still-same, new-same, more-same, AreOf, named-are, taken-are}
+use Rattle.mes_double.proofs.AgentLemmas.{all-there, not-so, there-new, there-order}
 use Rattle.mes_double.proofs.WishLemmas.{named-found}
 use Rattle.mes_double.proofs.Joined.{Joined}
 use Rattle.mes_double.proofs.JoinedRuns.{joined-turn, joined-begun}
 use Rattle.mes_double.proofs.RanLemmas.{Counted, counted-turn, counted-begun}
 use Rattle.mes_double.proofs.TurnLemmas.{Turn, turn, to_sent, to_heard, to_wished, arrival_of, to_answered}
 use Rattle.mes_double.proofs.TurnLemmas.Turn.{skips, offers, rescinds, reports, tells_owing, resends, hears, wishes, refuses, opens, carries, resubscribes}
+
+-- tasks fit offers, and are of their agent
+abbrev pub Suits : List Offer → List TaskInfo → Type 0
+Suits offers tasks = Fits offers tasks × (are_there offers tasks ≡ true)
+
+suits-nothing : (os : List Offer) → Suits os []
+suits-nothing os = (fits-nothing os, refl)
 
 -- the offers that a call accepted when it was sent, and which its tasks fit; those that are still
 -- outstanding have the same value
@@ -49,13 +60,13 @@ pub record Given (out : List Offer) (p : Sent) : Type 0 where
   pub are : AreOf (accepted_by p.call) list
   pub same : AllSame out list
   pub distinct : is_duplicated (accepted_by p.call) ≡ false
-  pub fits : Fits list (tasks_of p.call)
+  pub fits : Suits list (tasks_of p.call)
 
 pub record Fitted (c : Course) : Type 0 where
   pub hand : AllSame c.world.master.outstanding c.world.session.hand
   pub waiting : AllSame c.world.master.outstanding (brought c.world.waiting)
   pub given : (i : ℕ) (p : Sent) → slice_get c.world.sent i ≡ Some p → Given c.world.master.outstanding p
-  pub fits : WhatRanFits c
+  pub fits : (i : ℕ) (a : Arrival) → slice_get c.arrivals i ≡ Some a → Suits a.took a.ran
 
 -- ---- `Given` after the outstanding offers change
 
@@ -188,7 +199,11 @@ module _ (c : Course) (j : Joined c) (k : Counted c) (t : Fitted c) where
             are = named.0;
             same = named.1;
             distinct = accepted-once c.world.session call said;
-            fits = fits-none (offers_named c.world.session.hand (accepted_by call)) (tasks_of call) (λ n m breach. said (Exceeds n m) breach);
+            fits = (
+              fits-none (offers_named c.world.session.hand (accepted_by call)) (tasks_of call) (λ n m breach. said (Exceeds n m) breach),
+              all-there (offers_named c.world.session.hand (accepted_by call)) (tasks_of call) (not-so _ (λ two. said TwoAgents two))
+                  (λ n task at elsewhere. said (WrongAgent n) (task, at, elsewhere)),
+            );
           })
     ];
     fits = t.fits;
@@ -211,14 +226,14 @@ module _ (c : Course) (j : Joined c) (k : Counted c) (t : Fitted c) where
   -- ---- `Fitted` after the master receives a call
 
   module _ (index : ℕ) (p : Sent) (there : slice_get c.world.sent index ≡ Some p) where
-    fits-more : (a : Arrival) → Fits a.took a.ran → (i : ℕ) (b : Arrival) → slice_get (c.arrivals ++ a ∷ []) i ≡ Some b → Fits b.took b.ran
+    fits-more : (a : Arrival) → Suits a.took a.ran → (i : ℕ) (b : Arrival) → slice_get (c.arrivals ++ a ∷ []) i ≡ Some b → Suits b.took b.ran
     fits-more a f i b e = elim (front-or-last c.arrivals a i b e) [
       | inl g ↦ t.fits i b g
-      | inr g ↦ subst (λ (x : Arrival). Fits x.took x.ran) g.1 f
+      | inr g ↦ subst (λ (x : Arrival). Suits x.took x.ran) g.1 f
     ]
 
     leave : (a : MasterAnswer) (q : Offer → Bool) → ((x y : Offer) → name_of x ≡ name_of y → q x ≡ q y) → a.master.outstanding ≡ filter q c.world.master.outstanding
-        → ((out : List Offer) → AllSame out (brought a.events)) → Fits a.took a.ran → Fitted (to_answered c index p a)
+        → ((out : List Offer) → AllSame out (brought a.events)) → Suits a.took a.ran → Fitted (to_answered c index p a)
     leave a q alike left idle f = record {
       hand = subst (λ (l : List Offer). AllSame l c.world.session.hand) (sym left) (fewer q alike c.world.master.outstanding c.world.session.hand t.hand);
       waiting = wait a.master.outstanding c.world.waiting a.events
@@ -228,7 +243,7 @@ module _ (c : Course) (j : Joined c) (k : Counted c) (t : Fitted c) where
       fits = fits-more (arrival_of index p a) f;
     }
 
-    stay : (a : MasterAnswer) → a.master.outstanding ≡ c.world.master.outstanding → ((out : List Offer) → AllSame out (brought a.events)) → Fits a.took a.ran → Fitted (to_answered c index p a)
+    stay : (a : MasterAnswer) → a.master.outstanding ≡ c.world.master.outstanding → ((out : List Offer) → AllSame out (brought a.events)) → Suits a.took a.ran → Fitted (to_answered c index p a)
     stay a same idle f = record {
       hand = subst (λ (l : List Offer). AllSame l c.world.session.hand) (sym same) t.hand;
       waiting = wait a.master.outstanding c.world.waiting a.events (subst (λ (l : List Offer). AllSame l (brought c.world.waiting)) (sym same) t.waiting) (idle a.master.outstanding);
@@ -236,7 +251,7 @@ module _ (c : Course) (j : Joined c) (k : Counted c) (t : Fitted c) where
       fits = fits-more (arrival_of index p a) f;
     }
 
-    clear : (a : MasterAnswer) → a.master.outstanding ≡ [] → ((out : List Offer) → AllSame out (brought a.events)) → Fits a.took a.ran → Fitted (to_answered c index p a)
+    clear : (a : MasterAnswer) → a.master.outstanding ≡ [] → ((out : List Offer) → AllSame out (brought a.events)) → Suits a.took a.ran → Fitted (to_answered c index p a)
     clear a none idle f = record {
       hand = subst (λ (l : List Offer). AllSame l c.world.session.hand) (sym none) (none-same c.world.session.hand);
       waiting = wait a.master.outstanding c.world.waiting a.events (subst (λ (l : List Offer). AllSame l (brought c.world.waiting)) (sym none) (none-same (brought c.world.waiting))) (idle a.master.outstanding);
@@ -245,13 +260,13 @@ module _ (c : Course) (j : Joined c) (k : Counted c) (t : Fitted c) where
     }
 
     refuse-fit : (status : ℕ) → Fitted (record c { world = record c.world { skipped = c.world.skipped + 1 }; arrivals = c.arrivals ++ arrival_of index p (plain status c.world.master) ∷ [] })
-    refuse-fit status = record { hand = t.hand; waiting = t.waiting; given = t.given; fits = fits-more (arrival_of index p (plain status c.world.master)) (fits-nothing []) }
+    refuse-fit status = record { hand = t.hand; waiting = t.waiting; given = t.given; fits = fits-more (arrival_of index p (plain status c.world.master)) (suits-nothing []) }
 
 -- the tasks that an ACCEPT launches fit the offers that it takes
 module _ (c : Course) (k : Counted c) (t : Fitted c) (index : ℕ) (framework : Id) (body : Accept) (stream : List ℕ)
     (there : slice_get c.world.sent index ≡ Some (record { call = of.Accept framework body; stream = stream }))
     (o : IsOpen c.world.master (of.Accept framework body) (Some stream)) where
-  ran-fits : Fits (accepted c.world.master body.offer_ids (launched launched_by body.operations)).took (accepted c.world.master body.offer_ids (launched launched_by body.operations)).ran
+  ran-fits : Suits (accepted c.world.master body.offer_ids (launched launched_by body.operations)).took (accepted c.world.master body.offer_ids (launched launched_by body.operations)).ran
   ran-fits = by (all_there c.world.master.outstanding body.offer_ids) refl
     where
       listed : (ids : List Id) → all_there c.world.master.outstanding ids ≡ true → list_all (is_there c.world.master.outstanding) ids ≡ true
@@ -259,15 +274,19 @@ module _ (c : Course) (k : Counted c) (t : Fitted c) (index : ℕ) (framework : 
       listed (d ∷ ds) e = e
 
       by : (b : Bool) → all_there c.world.master.outstanding body.offer_ids ≡ b
-          → Fits (accepted c.world.master body.offer_ids (launched launched_by body.operations)).took (accepted c.world.master body.offer_ids (launched launched_by body.operations)).ran
-      by false f = rw f (fits-nothing _)
+          → Suits (accepted c.world.master body.offer_ids (launched launched_by body.operations)).took (accepted c.world.master body.offer_ids (launched launched_by body.operations)).ran
+      by false f = rw f (suits-nothing _)
       by true f =
           let given : Given c.world.master.outstanding (record { call = of.Accept framework body; stream = stream }) = t.given index (record { call = of.Accept framework body; stream = stream }) there in
           let moved : IsPermutation given.list (filter (names body.offer_ids) c.world.master.outstanding) =
           taken-are body.offer_ids given.list c.world.master.outstanding (λ n. omega (arith, k.took n, k.once n)) given.are given.same (listed body.offer_ids f) given.distinct in
           let is : handled c.world.master (of.Accept framework body) (Some stream) ≡ accepted c.world.master body.offer_ids (launched launched_by body.operations) = carried c.world.master (of.Accept framework body) (Some stream) o in
-          subst (λ (a : MasterAnswer). Fits a.took a.ran) is
-          (fits-ran c.world.master (of.Accept framework body) (Some stream) given.list (subst (λ (a : MasterAnswer). IsPermutation given.list a.took) (sym is) moved) given.fits)
+          let fits = fits-ran c.world.master (of.Accept framework body) (Some stream) given.list (subst (λ (a : MasterAnswer). IsPermutation given.list a.took) (sym is) moved) given.fits.0 in
+          let ran : launchable c.world.master body.offer_ids (launched launched_by body.operations) ≡ new_tasks c.world.master.launched (launched launched_by body.operations) =
+          ap (λ (b : Bool). if b then new_tasks c.world.master.launched (launched launched_by body.operations) else []) f in
+          let there = there-new (filter (names body.offer_ids) c.world.master.outstanding) c.world.master.launched (launched launched_by body.operations)
+          (there-order given.list (filter (names body.offer_ids) c.world.master.outstanding) (launched launched_by body.operations) moved given.fits.1) in
+          (subst (λ (a : MasterAnswer). Fits a.took a.ran) is fits, ap (are_there (filter (names body.offer_ids) c.world.master.outstanding)) ran ∙ there)
 
 carry-fit : (c : Course) → Joined c → Counted c → Fitted c → (index : ℕ) (p : Sent) → slice_get c.world.sent index ≡ Some p → IsOpen c.world.master p.call (Some p.stream)
     → Fitted (to_answered c index p (carried_out c.world.master p.call))
@@ -276,16 +295,16 @@ carry-fit c j k t index p there o = by p.call p.stream there o
     by : (call : Call) (stream : List ℕ) → (slice_get c.world.sent index ≡ Some (record { call = call; stream = stream })) → IsOpen c.world.master call (Some stream)
         → Fitted (to_answered c index (record { call = call; stream = stream }) (carried_out c.world.master call))
     by (of.Accept f body) stream at o = leave c j k t index _ at _ (λ (x : Offer). not (names body.offer_ids x)) (others-alike body.offer_ids) refl (λ out. tt) (ran-fits c k t index f body stream at o)
-    by (of.Decline f body) stream at o = leave c j k t index _ at _ (λ (x : Offer). not (names body.offer_ids x)) (others-alike body.offer_ids) refl (λ out. tt) (fits-nothing _)
-    by (of.Acknowledge f body) stream at o = stay c j k t index _ at _ refl (λ out. tt) (fits-nothing _)
-    by (of.Reconcile f body) stream at o = stay c j k t index _ at _ refl (λ out. told-same out (asked_for c.world.master.latest body.tasks)) (fits-nothing _)
-    by (of.Teardown f) stream at o = clear c j k t index _ at _ refl (λ out. tt) (fits-nothing _)
-    by (of.Subscribe f body) stream at o = stay c j k t index _ at _ refl (λ out. tt) (fits-nothing _)
-    by (of.Revive f) stream at o = stay c j k t index _ at _ refl (λ out. tt) (fits-nothing _)
-    by (of.Kill f body) stream at o = stay c j k t index _ at _ refl (λ out. tt) (fits-nothing _)
-    by (of.Suppress f) stream at o = stay c j k t index _ at _ refl (λ out. tt) (fits-nothing _)
-    by (of.Shutdown f body) stream at o = stay c j k t index _ at _ refl (λ out. tt) (fits-nothing _)
-    by (of.Message f body) stream at o = stay c j k t index _ at _ refl (λ out. tt) (fits-nothing _)
+    by (of.Decline f body) stream at o = leave c j k t index _ at _ (λ (x : Offer). not (names body.offer_ids x)) (others-alike body.offer_ids) refl (λ out. tt) (suits-nothing _)
+    by (of.Acknowledge f body) stream at o = stay c j k t index _ at _ refl (λ out. tt) (suits-nothing _)
+    by (of.Reconcile f body) stream at o = stay c j k t index _ at _ refl (λ out. told-same out (asked_for c.world.master.latest body.tasks)) (suits-nothing _)
+    by (of.Teardown f) stream at o = clear c j k t index _ at _ refl (λ out. tt) (suits-nothing _)
+    by (of.Subscribe f body) stream at o = stay c j k t index _ at _ refl (λ out. tt) (suits-nothing _)
+    by (of.Revive f) stream at o = stay c j k t index _ at _ refl (λ out. tt) (suits-nothing _)
+    by (of.Kill f body) stream at o = stay c j k t index _ at _ refl (λ out. tt) (suits-nothing _)
+    by (of.Suppress f) stream at o = stay c j k t index _ at _ refl (λ out. tt) (suits-nothing _)
+    by (of.Shutdown f body) stream at o = stay c j k t index _ at _ refl (λ out. tt) (suits-nothing _)
+    by (of.Message f body) stream at o = stay c j k t index _ at _ refl (λ out. tt) (suits-nothing _)
 
 -- ---- `Fitted` after each move
 
@@ -317,7 +336,7 @@ fitted-turn c d (resends index x there e) j k t = subst Fitted (sym e) (told-fit
 fitted-turn c d (hears x events w e) j k t = subst Fitted (sym e) (hear-fit c j k t x events w)
 fitted-turn c d (wishes call stream current said e) j k t = subst Fitted (sym e) (wish-fit c j k t call stream said)
 fitted-turn c d (refuses index p status there none is e) j k t = subst Fitted (sym e) (refuse-fit c j k t index p there status)
-fitted-turn c d (opens index p uuid uuids there call up e) j k t = subst Fitted (sym e) (clear c j k t index p there (subscribed c.world.master (uuid ∷ uuids)) refl (λ out. tt) (fits-nothing []))
+fitted-turn c d (opens index p uuid uuids there call up e) j k t = subst Fitted (sym e) (clear c j k t index p there (subscribed c.world.master (uuid ∷ uuids)) refl (λ out. tt) (suits-nothing []))
 fitted-turn c d (carries index p there o e) j k t = subst Fitted (sym e) (carry-fit c j k t index p there o)
 fitted-turn c d (resubscribes uuid uuids up e) j k t =
     subst Fitted (sym e)
@@ -334,7 +353,14 @@ fitted-leads c d (move ∷ list) l j k t =
     let u : Turn c l.0 = turn c l.0 move l.1 in
     fitted-leads l.0 d list l.2 (joined-turn c l.0 u j) (counted-turn c l.0 u k) (fitted-turn c l.0 u j k t)
 
-pub what-ran-fits : (framework : Id) (ids : List (List ℕ)) (list : List Move) (c : Course) → IsCourse framework ids list c → WhatRanFits c
-what-ran-fits framework ids list c l =
+suited : (framework : Id) (ids : List (List ℕ)) (list : List Move) (c : Course) → IsCourse framework ids list c
+    → (i : ℕ) (a : Arrival) → slice_get c.arrivals i ≡ Some a → Suits a.took a.ran
+suited framework ids list c l =
     (fitted-leads (begun framework ids) c list l (joined-begun framework ids) (counted-begun framework ids)
     (record { hand = tt; waiting = tt; given = λ i p at. absurd (cc); fits = λ i a at. absurd (cc) })).fits
+
+pub what-ran-fits : (framework : Id) (ids : List (List ℕ)) (list : List Move) (c : Course) → IsCourse framework ids list c → WhatRanFits c
+what-ran-fits framework ids list c l = λ i a at. (suited framework ids list c l i a at).0
+
+pub what-ran-is-there : (framework : Id) (ids : List (List ℕ)) (list : List Move) (c : Course) → IsCourse framework ids list c → WhatRanIsThere c
+what-ran-is-there framework ids list c l = λ i a at. (suited framework ids list c l i a at).1

@@ -1,3 +1,4 @@
+pub mod AgentLemmas
 pub mod AlikeLemmas
 pub mod AnswerLemmas
 pub mod CountLemmas

@@ -5,7 +5,7 @@ use Rattle.mes_double.specs.declared.moves.Move.{Move}
 use Rattle.mes_double.specs.Worlds.{WorldState}
 use Rattle.mes_double.specs.Courses.{Course, IsCourse}
 use Rattle.mes_double.specs.Promises.{KeepsPromises}
-use Rattle.mes_double.proofs.Fitting.{what-ran-fits}
+use Rattle.mes_double.proofs.Fitting.{what-ran-fits, what-ran-is-there}
 use Rattle.mes_double.proofs.JoinedRuns.{hand-agrees, all-agrees}
 use Rattle.mes_double.proofs.Keyed.{acked-heard}
 use Rattle.mes_double.proofs.RanLemmas.{launched-once, taken-once}
@@ -18,6 +18,7 @@ promises-kept framework ids list c is = record {
   launched = launched-once framework ids list c is;
   taken = taken-once framework ids list c is;
   fits = what-ran-fits framework ids list c is;
+  there = what-ran-is-there framework ids list c is;
   again = moves-nothing framework ids list c is;
   agrees = hand-agrees framework ids list c is;
   same = all-agrees framework ids list c is;

@@ -14,6 +14,7 @@ use Rattle.mes_session_state.specs.Held.{Held, names, is_owed}
 use Rattle.mes_session_state.specs.Calls.{named_by}
 use Rattle.mes_session_state.specs.Refusals.{is_duplicated, ids_of}
 use Rattle.mes_session.specs.History.{after, owed_by}
+use Rattle.mes_double_master.specs.Agents.{are_there}
 use Rattle.mes_double_master.specs.Masters.{MasterState}
 use Rattle.mes_double_master.specs.Sending.{offer_ids}
 use Rattle.mes_double.specs.declared.moves.Move.TheVariants as moves
@@ -48,6 +49,10 @@ TakenOnce c = is_duplicated (offer_ids (all_took c.arrivals)) ≡ false
 -- the tasks that an arrival launched fit the offers that the arrival took
 abbrev pub WhatRanFits : Course → Type 0
 WhatRanFits c = (i : ℕ) (a : Arrival) → slice_get c.arrivals i ≡ Some a → Fits a.took a.ran
+
+-- the tasks that an arrival launched are of the agent of the offers that the arrival took
+abbrev pub WhatRanIsThere : Course → Type 0
+WhatRanIsThere c = (i : ℕ) (a : Arrival) → slice_get c.arrivals i ≡ Some a → are_there a.took a.ran ≡ true
 
 -- ---- repeated calls
 
@@ -109,6 +114,7 @@ pub record KeepsPromises (c : Course) : Type 0 where
   pub launched : LaunchedOnce c
   pub taken : TakenOnce c
   pub fits : WhatRanFits c
+  pub there : WhatRanIsThere c
   pub again : AgainMovesNothing c
   pub agrees : HandAgrees c
   pub same : AllAgrees c

@@ -3,14 +3,14 @@ ghost use Rattle.std.specs.Prelude.{◌≡◌, ℕ, List};
 ghost use Rattle.mes_model.specs.Id.{Id};
 ghost use Rattle.mes_double.specs.declared.moves.Move.{Move};
 ghost use Rattle.mes_double.specs.Courses.{Course, IsCourse};
-ghost use Rattle.mes_double.specs.Promises.{AckedWereHeard, LaunchedOnce, TakenOnce, WhatRanFits, AgainMovesNothing, HandAgrees, AllAgrees};
+ghost use Rattle.mes_double.specs.Promises.{AckedWereHeard, LaunchedOnce, TakenOnce, WhatRanFits, WhatRanIsThere, AgainMovesNothing, HandAgrees, AllAgrees};
 
 use mes_session_state::refusal_laws;
 
 /// Proves what holds after any list of moves, whatever is lost, late or repeated:
 /// - each acknowledged update was received;
 /// - no task is launched twice, no offer is taken twice, and the tasks that a call launches fit the
-///   offers that the call takes;
+///   offers that the call takes, and are of their agent;
 /// - an ACCEPT, a DECLINE or an ACKNOWLEDGE with status 202 changes nothing when it arrives again;
 /// - on a current stream, after the queued events, the session's offers are the outstanding ones
 ///   without those that a call in transit names.
@@ -36,6 +36,9 @@ pub fn world_laws()
     // The tasks that a call launches fit the offers that the call takes.
     ensures fits { (framework : Id) (ids : List (List ℕ)) (list : List Move) (c : Course)
         → IsCourse framework ids list c → WhatRanFits c }
+    // The tasks that a call launches are of the agent of the offers that the call takes.
+    ensures there { (framework : Id) (ids : List (List ℕ)) (list : List Move) (c : Course)
+        → IsCourse framework ids list c → WhatRanIsThere c }
     // An ACCEPT, a DECLINE or an ACKNOWLEDGE with status 202 changes nothing when it arrives again.
     ensures again { (framework : Id) (ids : List (List ℕ)) (list : List Move) (c : Course)
         → IsCourse framework ids list c → AgainMovesNothing c }

@@ -4,7 +4,7 @@ use Rattle.mes_double_faults.specs.declared.fault.EventFault.{EventFault}
 use Rattle.mes_double_faults.specs.declared.fault.EventFault.TheVariants.{Lost, Repeated, Cut, Late, Muted as GoesMute}
 use Rattle.mes_double_live.specs.Bodies.{BodyState, released_by, held_back, appended_by, due, Appends, next_fault, counted, SendsIf, SendsBy, BeatsIf, IsDemand}
 use Rattle.mes_double_live.specs.Steps.{Step, StepsBody, LeadsBody}
-use Rattle.mes_double_live.specs.Steps.Step.{sends, resends, relays, reports, beats, obeys, waits, drops, releases, goes, clears, notes, takes, launches, acknowledges, kills, forgets}
+use Rattle.mes_double_live.specs.Steps.Step.{handles, breaks, sends, resends, relays, reports, beats, obeys, waits, drops, releases, goes, clears, notes, takes, launches, acknowledges, kills}
 use Rattle.mes_double_live.specs.declared.stream_body.Delivery.{Delivery}
 use Rattle.mes_double_live.specs.declared.stream_body.Delivery.TheVariants.{Flowing, Muted, Broken}
 
@@ -60,6 +60,7 @@ obeys-keeps name old new by = elim by [
 ]
 
 step-keeps : (step : Step) (old new : BodyState) → StepsBody step old new → Keeps old new
+step-keeps breaks old new is = keeps-by old new old is (record { most = refl; plan = refl })
 step-keeps (sends now event) old new is = sends-keeps old.delivery now old new _ is
 step-keeps (resends now event) old new is = sends-keeps old.delivery now old new _ is
 step-keeps (relays now event) old new is = sends-keeps old.delivery now old new _ is
@@ -76,7 +77,7 @@ step-keeps takes old new is = keeps-by old new _ is (record { most = refl; plan 
 step-keeps (launches launch tasks) old new is = keeps-by old new old is (record { most = refl; plan = refl })
 step-keeps (acknowledges body) old new is = keeps-by old new old is (record { most = refl; plan = refl })
 step-keeps (kills id) old new is = keeps-by old new old is (record { most = refl; plan = refl })
-step-keeps (forgets id) old new is = keeps-by old new old is (record { most = refl; plan = refl })
+step-keeps (handles call given) old new is = keeps-by old new old is (record { most = refl; plan = refl })
 
 -- the last steps begin at a body with the same size of chunks and the same planned faults
 pub record Split (old new : BodyState) (steps : List Step) : Type 0 where

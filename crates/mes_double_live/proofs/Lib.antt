@@ -1,5 +1,7 @@
 pub mod MoveLemmas
 pub mod FitLemmas
+pub mod LaunchLemmas
+pub mod MakeLemmas
 pub mod SafeLemmas
 pub mod TakenLemmas
 pub mod StepLemmas

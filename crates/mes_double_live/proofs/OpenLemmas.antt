@@ -1,5 +1,5 @@
 -- How the steps with which a stream begins follow one another.
-use Rattle.std.proofs.Common.{◌≡◌, ◌∙◌, ap, subst, sym, refl, ℕ, ◌+◌, ◌<◌, ◌≤◌, Bool, true, false, if◌then◌else◌, List, [], ◌∷◌, ◌++◌, take, length, get_or, map, Option, None, Some, Result, Ok, Err, IfOk, arith}
+use Rattle.std.proofs.Common.{◌≡◌, ◌∙◌, ap, subst, sym, ℕ, zero, suc, ◌+◌, ◌<◌, ◌≤◌, Bool, true, false, if◌then◌else◌, List, [], ◌∷◌, ◌++◌, take, length, get_or, map, Option, None, Some, Ok, Err, arith}
 use Rattle.std.proofs.lemmas.List.{append-nil, append_assoc, map-append, take_all, take_more}
 use Rattle.std.proofs.lemmas.Option.{slice_get-map, slice_get_within, get_or_from_slice_get}
 use Rattle.std.specs.List.{AllByRecursion, slice_get}
@@ -15,17 +15,15 @@ use Rattle.mes_session_state.specs.Calls.{framework_of}
 use Rattle.mes_double_master.specs.declared.refusal.MasterRefusal.TheVariants.{NoStream}
 use Rattle.mes_msg.specs.Event.TheVariants.{Error}
 use Rattle.mes_double_live.specs.Lives.{LiveState, Pushes}
-use Rattle.mes_double_live.specs.Opening.{ChangesBy, OpensIf, Resends, beginning, opening, replacing, resending, sending, unacknowledged}
-use Rattle.mes_double_live.specs.Steps.{Step, Leads, BeginsWith, StepsTo, NeedsNone, IsDelivering, IsOfCall, IsReplying, IsSubscribe}
+use Rattle.mes_double_live.specs.Opening.{ChangesBy, Resends, beginning, opening, replacing, resending, sending, unacknowledged}
+use Rattle.mes_double_live.specs.Steps.{Step, Leads, BeginsWith, StepsTo, IsDelivering, IsNoOffers, IsResending}
 use Rattle.mes_double_live.specs.Steps.Step.{sends, resends, beats, clears}
-use Rattle.mes_double_live.specs.declared.reply.Reply.{Reply}
-use Rattle.mes_double_live.proofs.StepLemmas.{Same, all-wider, leads-from, leads-to, leads-then, pushed-leads, same, same-by, steps-one}
-use Rattle.mes_double_live.proofs.CallLemmas.{delivering-of-subscribe}
+use Rattle.mes_double_live.proofs.StepLemmas.{Same, all-wider, leads-from, leads-none, leads-to, leads-then, pushed-leads, same, sent-leads, steps-one}
 
 -- ---- steps
 
 pub makes-none : (old new : LiveState) → new ≡ old → ChangesBy [] old new
-makes-none old new e = let is = same old new e in record { leads = record { body = is.body; tasks = is.tasks; waiting = is.waiting }; time = ap (λ (x : LiveState). x.time) e }
+makes-none old new e = record { leads = leads-none old new (same old new e); time = ap (λ (x : LiveState). x.time) e }
 
 pub makes-then : (s t : List Step) (a b c : LiveState) → ChangesBy s a b → ChangesBy t b c → ChangesBy (s ++ t) a c
 makes-then s t a b c first next = record { leads = leads-then a b c s t first.leads next.leads; time = next.time ∙ first.time }
@@ -36,6 +34,11 @@ makes-from steps a b c e time makes = record { leads = leads-from a b c steps e 
 
 pub made-steps : {P : Step → Type 0} (step : Step) (a b : LiveState) → P step → ChangesBy (step ∷ []) a b → StepsTo P a b
 made-steps step a b may makes = steps-one step a b may makes.leads
+
+pub all-at : {X : Type 0} (P : X → Type 0) (xs : List X) (i : ℕ) (x : X) → i < length xs → x ≡ get_or xs i x → AllByRecursion P xs → P x
+all-at P [] i x within is all = absurd (omega (arith, within))
+all-at P (y ∷ ys) zero x within is all = subst P (sym is) all.0
+all-at P (y ∷ ys) (suc i) x within is all = all-at P ys i x (omega (arith, within)) is all.1
 
 -- these steps, and then events are sent
 pub makes-begins : {P : Step → Type 0} (steps : List Step) (a b c : LiveState) → ChangesBy steps a b → StepsTo P b c → BeginsWith P steps a c
@@ -48,19 +51,10 @@ begins-only steps a b makes = record { rest = []; allowed = tt; leads = subst (�
 pub begins-sending : {P : Step → Type 0} (steps : List Step) (a b : LiveState) → steps ≡ [] → StepsTo P a b → BeginsWith P steps a b
 begins-sending steps a b none all = record { rest = all.steps; allowed = all.allowed; leads = subst (λ (l : List Step). Leads a (l ++ all.steps) b) (sym none) all.leads }
 
-pub sending-allowed : (P : Step → Type 0) → ((now : ℕ) (event : Event) → NeedsNone event → P (sends now event)) → (now : ℕ) (events : List Event) → AllByRecursion NeedsNone events
-    → AllByRecursion P (sending now events)
-sending-allowed P may now [] all = tt
-sending-allowed P may now (event ∷ events) all = (may now event all.0, sending-allowed P may now events all.1)
-
--- events are sent, in order
-pub sent-all : (now : ℕ) (events : List Event) (a b : LiveState) → AllByRecursion NeedsNone events → ChangesBy (sending now events) a b → StepsTo IsReplying a b
-sent-all now events a b all makes = record { steps = sending now events; allowed = sending-allowed IsReplying (λ n e k. k) now events all; leads = makes.leads }
-
 -- an event is sent
-pub pushed-makes : (event : Event) (a b : LiveState) → Pushes event a b → ChangesBy (sends a.time event ∷ []) a b
-pushed-makes event a b pushes = record {
-  leads = pushed-leads (sends a.time event) event a b pushes (λ x. x) (λ x. x) (λ x. x);
+pub pushed-makes : (event : Event) (a b : LiveState) → IsNoOffers event → Pushes event a b → ChangesBy (sends a.time event ∷ []) a b
+pushed-makes event a b other pushes = record {
+  leads = sent-leads event a b other pushes;
   time = ap (λ (x : LiveState). x.time) pushes.rest;
 }
 
@@ -83,12 +77,20 @@ found-update m i event on e =
     slice_get-map (λ (x : OwedKey × TaskStatus). update_event x.1) (waiting m.owing m.acked) i
     ∙ sent-again (is_some m.stream) m (slice_get (waiting m.owing m.acked) i) event on e
 
+pub resent-leads : (i : ℕ) (event : Event) (a b : LiveState) → resend_sent a.master i ≡ Ok (event, a.master) → Pushes event a b → Leads a (resends a.time event ∷ []) b
+resent-leads i event a b ok pushes =
+    pushed-leads (resends a.time event) event a b pushes (λ is. (i, subst (λ (m : MasterState). resend_sent a.master i ≡ Ok (event, m)) (sym is) ok)) (λ x. x) (λ x. x) (λ x. x)
+
+pub resent-steps : (i : ℕ) (event : Event) (a b : LiveState) → resend_sent a.master i ≡ Ok (event, a.master) → Pushes event a b → StepsTo IsResending a b
+resent-steps i event a b ok pushes = steps-one (resends a.time event) a b tt (resent-leads i event a b ok pushes)
+
 -- `t` is the view of the fields of a live test master of the value `s`
 pub resent-found : (s t mid new : LiveState) (i : ℕ) (event : Event) → t ≡ s → Same t mid → mid.time ≡ t.time
     → resend_sent t.master i ≡ Ok (event, t.master) → Pushes event mid new → is_some s.master.stream ≡ true → Resends i true s new
 resent-found s t mid new i event e is time ok pushes on =
+    let resent : resend_sent mid.master i ≡ Ok (event, mid.master) = subst (λ (m : MasterState). resend_sent m i ≡ Ok (event, m)) (sym is.master) ok in
     let one : ChangesBy (resends mid.time event ∷ []) mid new =
-    record { leads = pushed-leads (resends mid.time event) event mid new pushes (λ x. x) (λ x. x) (λ x. x); time = ap (λ (x : LiveState). x.time) pushes.rest } in
+    record { leads = resent-leads i event mid new resent pushes; time = ap (λ (x : LiveState). x.time) pushes.rest } in
     let from : ChangesBy (resends mid.time event ∷ []) t new = makes-from _ t mid new is time one in
     let at : ChangesBy (resends t.time event ∷ []) t new = subst (λ (now : ℕ). ChangesBy (resends now event ∷ []) t new) time from in (
       event,
@@ -141,7 +143,7 @@ pub replaces : (stream : Option (List ℕ)) (id message : List ℕ) (a b c : Liv
     → Pushes (Error (record { message = message })) a b → ChangesBy (clears ∷ []) b c → ChangesBy (replacing a.time stream) a c
 replaces stream id message a b c is says pushes ends =
     let sent : ChangesBy (sends a.time (Error (record { message = codes "Framework failed over" })) ∷ []) a b =
-    subst (λ (m : List ℕ). ChangesBy (sends a.time (Error (record { message = m })) ∷ []) a b) says (pushed-makes _ a b pushes) in
+    subst (λ (m : List ℕ). ChangesBy (sends a.time (Error (record { message = m })) ∷ []) a b) says (pushed-makes _ a b tt pushes) in
     subst (λ (s : Option (List ℕ)). ChangesBy (replacing a.time s) a c) (sym is) (makes-then _ _ a b c sent ends)
 
 -- there was no stream before
@@ -160,35 +162,28 @@ stream-begins stream events s0 s1 s2 s3 s4 s5 ended sent beat again same after =
     let all = makes-then _ _ s0 s1 s4 ended begins in
     record { rest = after.steps; allowed = after.allowed; leads = leads-then s0 s4 s5 _ after.steps all.leads after.leads }
 
-pub begins-then : (steps : List Step) (a b c : LiveState) → BeginsWith IsDelivering steps a b → StepsTo IsDelivering b c → BeginsWith IsDelivering steps a c
-begins-then steps a b c begins after = record {
+pub begins-then : {P : Step → Type 0} (steps : List Step) (a b c : LiveState) → BeginsWith P steps a b → StepsTo P b c → BeginsWith P steps a c
+begins-then {P} steps a b c begins after = record {
   rest = begins.rest ++ after.steps;
-  allowed = all_append IsDelivering begins.rest after.steps begins.allowed after.allowed;
+  allowed = all_append P begins.rest after.steps begins.allowed after.allowed;
   leads =
       subst (λ (all : List Step). Leads a all c) (append_assoc steps begins.rest after.steps)
       (leads-then a b c (steps ++ begins.rest) after.steps begins.leads after.leads);
 }
 
--- the steps of a new stream are those of a call
-pub begins-steps : (call : Call) (steps : List Step) (a b : LiveState) → IsSubscribe call → AllByRecursion (IsOfCall call) steps → BeginsWith IsDelivering steps a b → StepsTo (IsOfCall call) a b
-begins-steps call steps a b on allowed begins =
-    let rest = all-wider (delivering-of-subscribe call on) begins.rest begins.allowed in
-    record { steps = steps ++ begins.rest; allowed = all_append (IsOfCall call) steps begins.rest allowed rest; leads = begins.leads }
+pub begins-wider : {P Q : Step → Type 0} → ((step : Step) → P step → Q step) → (steps : List Step) (a b : LiveState) → BeginsWith P steps a b → BeginsWith Q steps a b
+begins-wider up steps a b begins = record { rest = begins.rest; allowed = all-wider up begins.rest begins.allowed; leads = begins.leads }
 
-replacing-allowed : (call : Call) (stream : Option (List ℕ)) (now : ℕ) → AllByRecursion (IsOfCall call) (replacing now stream)
-replacing-allowed call None now = (tt, tt)
-replacing-allowed call (Some id) now = (tt, (tt, tt))
+pub begins-to : {P : Step → Type 0} (steps : List Step) (a b c : LiveState) → Same b c → BeginsWith P steps a b → BeginsWith P steps a c
+begins-to steps a b c e begins = record { rest = begins.rest; allowed = begins.allowed; leads = leads-to a b c _ e begins.leads }
 
-resending-allowed : (call : Call) (now : ℕ) (updates : List Event) → IsSubscribe call → AllByRecursion (IsOfCall call) (resending now updates)
-resending-allowed call now [] on = tt
-resending-allowed call now (event ∷ events) on = (on, resending-allowed call now events on)
-
-pub beginning-allowed : (call : Call) (stream : Option (List ℕ)) (now from : ℕ) (events updates : List Event) → IsSubscribe call → AllByRecursion NeedsNone events
-    → AllByRecursion (IsOfCall call) (replacing now stream ++ beginning from events updates)
-beginning-allowed call stream now from events updates on all =
-    let sent = sending-allowed (IsOfCall call) (λ n e k. k) from events all in
-    all_append (IsOfCall call) (replacing now stream) (beginning from events updates) (replacing-allowed call stream now)
-    (all_append (IsOfCall call) (sending from events) (beats ∷ resending from updates) sent (tt, resending-allowed call from updates on))
+-- these steps, and then those with which the others begin
+pub makes-first : {P : Step → Type 0} (s t : List Step) (a b c : LiveState) → ChangesBy s a b → BeginsWith P t b c → BeginsWith P (s ++ t) a c
+makes-first s t a b c makes begins = record {
+  rest = begins.rest;
+  allowed = begins.allowed;
+  leads = subst (λ (all : List Step). Leads a all c) (sym (append_assoc s t begins.rest)) (leads-then a b c s (t ++ begins.rest) makes.leads begins.leads);
+}
 
 -- ---- SUBSCRIBE
 
@@ -219,39 +214,14 @@ subscribes m n call given status events is ok answer =
     handled-is (m.down || not (agrees m.framework (framework_of call))) m n call given events is (subst (λ (x : ℕ). IsAnswer (handled m call given) x events n) ok answer)
 
 -- the steps of a new stream are those of `opening`
-pub opens-by : (old mid new : LiveState) (stream : Option (List ℕ)) (events : List Event) → mid ≡ record old { master = mid.master }
+pub opens-by : {P : Step → Type 0} (old mid new : LiveState) (stream : Option (List ℕ)) (events : List Event) → mid ≡ record old { master = mid.master }
     → stream ≡ old.master.stream → Subscribes old.master events mid.master
-    → BeginsWith IsDelivering (replacing mid.time stream ++ beginning mid.time events (unacknowledged mid.master)) mid new → BeginsWith IsDelivering (opening old) old new
-opens-by old mid new stream events rest is by begins =
+    → BeginsWith P (replacing mid.time stream ++ beginning mid.time events (unacknowledged mid.master)) mid new → BeginsWith P (opening old) mid new
+opens-by {P} old mid new stream events rest is by begins =
     let time : mid.time ≡ old.time = ap (λ (x : LiveState). x.time) rest in
     let all : replacing mid.time stream ++ beginning mid.time events (unacknowledged mid.master) ≡ opening old =
     ap (λ (s : Option (List ℕ)). replacing mid.time s ++ beginning mid.time events (unacknowledged mid.master)) is
     ∙ ap (λ (now : ℕ). replacing now old.master.stream ++ beginning now events (unacknowledged mid.master)) time
     ∙ ap (λ (l : List Event). replacing old.time old.master.stream ++ beginning old.time l (unacknowledged mid.master)) by.events_are
     ∙ ap (λ (l : List Event). replacing old.time old.master.stream ++ beginning old.time (subscribed_event old.master.framework old.master.interval ∷ []) l) by.same in
-    let at = subst (λ (steps : List Step). BeginsWith IsDelivering steps mid new) all begins in
-    let all_same : Same old mid = same-by old mid (record old { master = mid.master }) rest refl refl refl in
-    record { rest = at.rest; allowed = at.allowed; leads = leads-from old mid new _ all_same at.leads }
-
--- ---- by the id of the stream that was opened
-
-pub opens-new : (opened : Option (List ℕ)) (m : MasterState) (old new : LiveState) → opened ≡ m.stream → BeginsWith IsDelivering (opening old) old new → OpensIf opened m old new
-opens-new None m old new is begins = tt
-opens-new (Some id) m old new is begins = (sym is, begins)
-
-pub opens-none : (opened : Option (List ℕ)) (m : MasterState) (old new : LiveState) → opened ≡ None → OpensIf opened m old new
-opens-none opened m old new e = subst (λ (x : Option (List ℕ)). OpensIf x m old new) (sym e) tt
-
-pub opens-then : (opened : Option (List ℕ)) (m : MasterState) (old mid new : LiveState) → OpensIf opened m old mid → StepsTo IsDelivering mid new → OpensIf opened m old new
-opens-then None m old mid new opens after = tt
-opens-then (Some id) m old mid new (is, begins) after = (is, begins-then (opening old) old mid new begins after)
-
--- the body, the tasks and the waiting events are the same from `mid` on
-pub opens-to : (opened : Option (List ℕ)) (m : MasterState) (old mid new : LiveState) → Same mid new → OpensIf opened m old mid → OpensIf opened m old new
-opens-to None m old mid new same opens = tt
-opens-to (Some id) m old mid new same (is, begins) = (is, record { rest = begins.rest; allowed = begins.allowed; leads = leads-to old mid new _ same begins.leads })
-
--- a call that opens no stream
-pub if-plain : {E : Type 0} (result : Result Reply E) (m : MasterState) (old new : LiveState) → IfOk result (λ reply. reply.opened ≡ None) → IfOk result (λ reply. OpensIf reply.opened m old new)
-if-plain (Ok reply) m old new is = opens-none reply.opened m old new is
-if-plain (Err why) m old new is = tt
+    subst (λ (steps : List Step). BeginsWith P steps mid new) all begins

@@ -14,7 +14,7 @@ use Rattle.mes_double_master.specs.Masters.{update_event}
 use Rattle.mes_double_live.specs.Bodies.{BodyState, cleared, released_by, appended_by, Appends, next_fault, next_number, fault_by, counted, SendsIf, SendsBy, Sends, BeatsIf, Beats, last_chunk}
 use Rattle.mes_double_live.specs.Lives.{record_of}
 use Rattle.mes_double_live.specs.Steps.{Step, StepsBody, LeadsBody, IsFaultless, IsFresh, IsPlain, events_by, bytes_by, sent_records, bytes_written}
-use Rattle.mes_double_live.specs.Steps.Step.{sends, resends, relays, reports, beats, obeys, waits, drops, releases, goes, clears, notes, takes, launches, acknowledges, kills, forgets}
+use Rattle.mes_double_live.specs.Steps.Step.{handles, breaks, sends, resends, relays, reports, beats, obeys, waits, drops, releases, goes, clears, notes, takes, launches, acknowledges, kills}
 use Rattle.mes_double_live.specs.declared.stream_body.Delivery.{Delivery}
 use Rattle.mes_double_live.specs.declared.stream_body.Delivery.TheVariants.{Flowing}
 use Rattle.mes_double_live.proofs.KeepLemmas.{leads-split}
@@ -72,6 +72,7 @@ one-sent : (old new : BodyState) (event : Event) → Sent old new (record_of eve
 one-sent old new event sent = subst (λ (content : List ℕ). Sent old new content []) (sym (append-nil (record_of event))) sent
 
 step-plain : (step : Step) (old new : BodyState) → IsPlain step → IsQuiet old → StepsBody step old new → Sent old new (records_of kinds.event (events_by step)) (bytes_by step)
+step-plain breaks old new plain quiet is = sent-same old new is quiet
 step-plain (sends now event) old new plain quiet is = one-sent old new event (sends-plain old new now _ quiet is)
 step-plain (resends now event) old new plain quiet is = one-sent old new event (sends-plain old new now _ quiet is)
 step-plain (relays now event) old new plain quiet is = one-sent old new event (sends-plain old new now _ quiet is)
@@ -97,7 +98,7 @@ step-plain takes old new plain quiet is =
 step-plain (launches launch tasks) old new plain quiet is = sent-same old new is quiet
 step-plain (acknowledges body) old new plain quiet is = sent-same old new is quiet
 step-plain (kills id) old new plain quiet is = sent-same old new is quiet
-step-plain (forgets id) old new plain quiet is = sent-same old new is quiet
+step-plain (handles call given) old new plain quiet is = sent-same old new is quiet
 
 sent-then : (a b c : BodyState) (x y v w : List ℕ) → Sent a b x v → Sent b c y w → Sent a c (x ++ y) (v ++ w)
 sent-then a b c x y v w first next = record {

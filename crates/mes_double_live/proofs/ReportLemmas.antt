@@ -6,6 +6,7 @@ use Rattle.std.proofs.lemmas.List.{map-append, map-set}
 use Rattle.std.proofs.lemmas.List.Sums.{fold-append}
 use Rattle.std.proofs.lemmas.Option.{slice_get-map}
 use Rattle.mes_frame.proofs.Chunks.{all_append}
+use Rattle.mes_model.specs.Id.{Id}
 use Rattle.mes_model.specs.TaskInfo.{TaskInfo}
 use Rattle.mes_model.specs.TaskStatus.{TaskStatus}
 use Rattle.mes_model_task.specs.declared.task_state.TaskState.{TaskState}
@@ -18,9 +19,12 @@ use Rattle.mes_double_cluster.specs.TaskRuns.{TaskDeed, TaskPast, past_of, told_
 use Rattle.mes_double_cluster.specs.TaskRuns.TaskDeed.{reports as deed-reports, acknowledges as deed-acknowledges, kills as deed-kills}
 use Rattle.mes_double_cluster.specs.declared.task.Task.{Task}
 use Rattle.mes_double_cluster.proofs.TaskLemmas.{none_due, told as told_in}
-use Rattle.mes_double_live.specs.Steps.{Step, StepsTasks, LeadsTasks}
-use Rattle.mes_double_live.specs.Steps.Step.{sends, resends, relays, reports, beats, obeys, waits, drops, releases, goes, clears, notes, takes, launches, acknowledges, kills, forgets}
-use Rattle.mes_double_live.specs.Reports.{Reported, with_task, new_task, told, told_of, after_step, reported}
+use Rattle.mes_msg.specs.Event.{Event}
+use Rattle.mes_msg.specs.Event.TheVariants as of
+use Rattle.mes_double_cluster.specs.TaskProgress.{is_last}
+use Rattle.mes_double_live.specs.Steps.{Step, StepsTasks, LeadsTasks, overtaken_by}
+use Rattle.mes_double_live.specs.Steps.Step.{handles, breaks, sends, resends, relays, reports, beats, obeys, waits, drops, releases, goes, clears, notes, takes, launches, acknowledges, kills}
+use Rattle.mes_double_live.specs.Reports.{Reported, with_task, new_task, told, told_of, not_overtaken, after_step, reported}
 
 -- ---- lists of tasks
 
@@ -132,10 +136,33 @@ record Are (all : List Reported) (tasks : List Task) : Type 0 where
   are : tasks-of all ≡ tasks
   past : AllByRecursion IsPast all
 
+-- after an UPDATE from outside
+left-are : (last : Bool) (id : Id) (all : List Reported) (old new : List Task) → Are all old
+    → new ≡ (if last then filter (λ (t : Task). not (same_id t.id id)) old else old)
+    → Are (if last then filter (λ (r : Reported). not (same_id r.task.id id)) all else all) new
+left-are true id all old new has is = record {
+  are = kept-tasks (λ (t : Task). not (same_id t.id id)) all ∙ ap (filter (λ (t : Task). not (same_id t.id id))) has.are ∙ sym is;
+  past = kept-past (λ (r : Reported). not (same_id r.task.id id)) all has.past;
+}
+left-are false id all old new has is = record { are = has.are ∙ sym is; past = has.past }
+
+relays-are : (event : Event) (all : List Reported) (old new : List Task) → Are all old → new ≡ overtaken_by event old → Are (not_overtaken event all) new
+relays-are (of.Update body) all old new has is = left-are (is_last body.status.state) body.status.task_id all old new has is
+relays-are (of.Subscribed body) all old new has is = record { are = has.are ∙ sym is; past = has.past }
+relays-are (of.Offers list) all old new has is = record { are = has.are ∙ sym is; past = has.past }
+relays-are (of.Rescind body) all old new has is = record { are = has.are ∙ sym is; past = has.past }
+relays-are (of.Message body) all old new has is = record { are = has.are ∙ sym is; past = has.past }
+relays-are (of.Failure body) all old new has is = record { are = has.are ∙ sym is; past = has.past }
+relays-are (of.Error body) all old new has is = record { are = has.are ∙ sym is; past = has.past }
+relays-are of.Heartbeat all old new has is = record { are = has.are ∙ sym is; past = has.past }
+relays-are (of.Other name) all old new has is = record { are = has.are ∙ sym is; past = has.past }
+
 step-are : (step : Step) (all : List Reported) (old new : List Task) → Are all old → StepsTasks step old new → Are (after_step all step) new
+step-are (handles call given) all old new has is = record { are = has.are ∙ sym is; past = has.past }
+step-are breaks all old new has is = record { are = has.are ∙ sym is; past = has.past }
 step-are (sends now event) all old new has is = record { are = has.are ∙ sym is; past = has.past }
 step-are (resends now event) all old new has is = record { are = has.are ∙ sym is; past = has.past }
-step-are (relays now event) all old new has is = record { are = has.are ∙ sym is; past = has.past }
+step-are (relays now event) all old new has is = relays-are event all old new has is
 step-are (reports now index update finishes status) all old new has is =
     let found : slice_get old index ≡ option_map (λ (r : Reported). r.task) (slice_get all index) =
     ap (λ (l : List Task). slice_get l index) (sym has.are) ∙ slice_get-map (λ (r : Reported). r.task) all index in
@@ -176,10 +203,6 @@ step-are (acknowledges body) all old new has is = record {
 step-are (kills id) all old new has is = record {
   are = changed-tasks (task.killed id) all ∙ ap (map (task.killed id)) has.are ∙ sym is;
   past = changed-past (task.killed id) (λ r past. killed-by (same_id r.task.id id) r past) all has.past;
-}
-step-are (forgets id) all old new has is = record {
-  are = kept-tasks (λ (t : Task). not (same_id t.id id)) all ∙ ap (filter (λ (t : Task). not (same_id t.id id))) has.are ∙ sym is;
-  past = kept-past (λ (r : Reported). not (same_id r.task.id id)) all has.past;
 }
 
 steps-are : (steps : List Step) (all : List Reported) (old new : List Task) → Are all old → LeadsTasks old steps new → Are (fold after_step all steps) new

@@ -1,19 +1,21 @@
--- How steps follow one another, and that each change of a body or of tasks is a step.
-use Rattle.std.proofs.Common.{◌≡◌, ◌∙◌, ℕ, ◌==◌, if◌then◌else◌, List, [], ◌∷◌, ◌++◌, Bool, true, false, Option, Some, None, Result, take, take-append-drop, refl, sym, ap, subst}
+-- How steps follow one another, and that each change is a step.
+use Rattle.std.proofs.Common.{◌≡◌, ◌∙◌, ℕ, ◌==◌, if◌then◌else◌, List, [], ◌∷◌, ◌++◌, Bool, true, false, Option, Some, None, Ok, Result, take, take-append-drop, refl, sym, ap, subst}
 use Rattle.std.specs.List.{AllByRecursion}
 use Rattle.mes_frame.proofs.Chunks.{all_append}
 use Rattle.std.specs.Result.{OnOk}
 use Rattle.std.proofs.lemmas.Result.{on_ok_weaker}
 use Rattle.mes_msg.specs.Event.{Event}
-use Rattle.mes_msg.specs.Event.TheVariants.{Other}
+use Rattle.mes_double_master.specs.Masters.{MasterState, stream_broke}
+use Rattle.mes_double_master.specs.Sending.{offers_sent}
+use Rattle.mes_model.specs.Offer.{Offer}
 use Rattle.mes_msg.specs.Event.TheVariants as of
 use Rattle.mes_double_cluster.specs.declared.task.Task.{Task}
 use Rattle.mes_double_faults.specs.declared.fault.CallFault.{CallFault}
 use Rattle.mes_double_faults.specs.declared.fault.Fault.TheVariants as planned
-use Rattle.mes_double_live.specs.Bodies.{BodyState, written, Obeys, Sends}
-use Rattle.mes_double_live.specs.Lives.{LiveState, Pushes, with_first, planned_fault, next_call, noted_by, noted, call_counted, record_of}
-use Rattle.mes_double_live.specs.Steps.{Step, StepsBody, StepsTasks, StepsWaiting, LeadsBody, LeadsTasks, LeadsWaiting, Leads, StepsTo, NeedsNone, IsOffers, IsSending, IsDelivering, IsReplying, IsResending, IsEnding, IsNoting, IsOfTime, IsTaking}
-use Rattle.mes_double_live.specs.Steps.Step.{sends, resends, relays, reports, beats, obeys, waits, drops, releases, goes, clears, notes, takes, launches, acknowledges, kills, forgets}
+use Rattle.mes_double_live.specs.Bodies.{BodyState, cleared, written, Sends}
+use Rattle.mes_double_live.specs.Lives.{LiveState, Pushes, planned_fault, next_call, noted_by, noted, call_counted, record_of}
+use Rattle.mes_double_live.specs.Steps.{Step, StepsMaster, StepsBody, StepsTasks, StepsWaiting, LeadsMaster, LeadsBody, LeadsTasks, LeadsWaiting, Leads, StepsTo, Makes, IsNoOffers, IsOffers, IsReply, IsSending, IsDelivering, IsReplying, IsResending, IsEnding, IsNoting, IsOfTime, IsTaking}
+use Rattle.mes_double_live.specs.Steps.Step.{handles, breaks, sends, resends, relays, reports, beats, obeys, waits, drops, releases, goes, clears, notes, takes, launches, acknowledges, kills}
 
 -- ---- steps that follow one another
 
@@ -29,37 +31,53 @@ pub waiting-then : (a b c : List Event) (before steps : List Step) → LeadsWait
 waiting-then a b c [] steps first next = subst (λ (x : List Event). LeadsWaiting x steps c) first next
 waiting-then a b c (step ∷ before) steps (mid, is, rest) next = (mid, is, waiting-then mid b c before steps rest next)
 
+pub master-then : (a b c : MasterState) (before steps : List Step) → LeadsMaster a before b → LeadsMaster b steps c → LeadsMaster a (before ++ steps) c
+master-then a b c [] steps first next = subst (λ (x : MasterState). LeadsMaster x steps c) first next
+master-then a b c (step ∷ before) steps (mid, is, rest) next = (mid, is, master-then mid b c before steps rest next)
+
 pub leads-then : (a b c : LiveState) (before steps : List Step) → Leads a before b → Leads b steps c → Leads a (before ++ steps) c
 leads-then a b c before steps first next = record {
+  master = master-then a.master b.master c.master before steps first.master next.master;
   body = body-then a.out b.out c.out before steps first.body next.body;
   tasks = tasks-then a.cluster.tasks b.cluster.tasks c.cluster.tasks before steps first.tasks next.tasks;
   waiting = waiting-then a.waiting b.waiting c.waiting before steps first.waiting next.waiting;
 }
 
-pub leads-one : (step : Step) (a b : LiveState) → StepsBody step a.out b.out → StepsTasks step a.cluster.tasks b.cluster.tasks → StepsWaiting step a.waiting b.waiting → Leads a (step ∷ []) b
-leads-one step a b body tasks waiting = record { body = (b.out, body, refl); tasks = (b.cluster.tasks, tasks, refl); waiting = (b.waiting, waiting, refl) }
+pub leads-one : (step : Step) (a b : LiveState) → StepsMaster step a.master b.master → StepsBody step a.out b.out → StepsTasks step a.cluster.tasks b.cluster.tasks
+    → StepsWaiting step a.waiting b.waiting → Leads a (step ∷ []) b
+leads-one step a b master body tasks waiting =
+    record { master = (b.master, master, refl); body = (b.out, body, refl); tasks = (b.cluster.tasks, tasks, refl); waiting = (b.waiting, waiting, refl) }
 
--- two states have the same body, the same tasks and the same waiting events
+-- two states have the same test master, the same body, the same tasks and the same waiting events
 pub record Same (a b : LiveState) : Type 0 where
+  pub master : b.master ≡ a.master
   pub body : b.out ≡ a.out
   pub tasks : b.cluster.tasks ≡ a.cluster.tasks
   pub waiting : b.waiting ≡ a.waiting
 
 pub same : (a b : LiveState) → b ≡ a → Same a b
-same a b e = record { body = ap (λ (x : LiveState). x.out) e; tasks = ap (λ (x : LiveState). x.cluster.tasks) e; waiting = ap (λ (x : LiveState). x.waiting) e }
+same a b e = record {
+  master = ap (λ (x : LiveState). x.master) e;
+  body = ap (λ (x : LiveState). x.out) e;
+  tasks = ap (λ (x : LiveState). x.cluster.tasks) e;
+  waiting = ap (λ (x : LiveState). x.waiting) e;
+}
 
--- `m` is the view of the fields of a live test master of the value `a`, or what a call left
-pub same-view : (a b m : LiveState) → m ≡ a → b.out ≡ m.out → b.cluster.tasks ≡ m.cluster.tasks → b.waiting ≡ m.waiting → Same a b
-same-view a b m e body tasks waiting = let is = same a m e in record { body = body ∙ is.body; tasks = tasks ∙ is.tasks; waiting = waiting ∙ is.waiting }
-
-pub same-by : (a b m : LiveState) → b ≡ m → m.out ≡ a.out → m.cluster.tasks ≡ a.cluster.tasks → m.waiting ≡ a.waiting → Same a b
-same-by a b m e body tasks waiting = let is = same m b e in record { body = is.body ∙ body; tasks = is.tasks ∙ tasks; waiting = is.waiting ∙ waiting }
+pub same-by : (a b m : LiveState) → b ≡ m → m.master ≡ a.master → m.out ≡ a.out → m.cluster.tasks ≡ a.cluster.tasks → m.waiting ≡ a.waiting → Same a b
+same-by a b m e master body tasks waiting =
+    let is = same m b e in record { master = is.master ∙ master; body = is.body ∙ body; tasks = is.tasks ∙ tasks; waiting = is.waiting ∙ waiting }
 
 pub same-then : (a b c : LiveState) → Same a b → Same b c → Same a c
-same-then a b c first next = record { body = next.body ∙ first.body; tasks = next.tasks ∙ first.tasks; waiting = next.waiting ∙ first.waiting }
+same-then a b c first next =
+    record { master = next.master ∙ first.master; body = next.body ∙ first.body; tasks = next.tasks ∙ first.tasks; waiting = next.waiting ∙ first.waiting }
+
+-- `m` is the view of the fields of a live test master of the value `a`, or what a call left
+pub same-view : (a b m : LiveState) → m ≡ a → Same m b → Same a b
+same-view a b m e from = same-then a m b (same a m e) from
 
 pub leads-from : (a b c : LiveState) (steps : List Step) → Same a b → Leads b steps c → Leads a steps c
 leads-from a b c steps e all = record {
+  master = subst (λ (x : MasterState). LeadsMaster x steps c.master) e.master all.master;
   body = subst (λ (x : BodyState). LeadsBody x steps c.out) e.body all.body;
   tasks = subst (λ (x : List Task). LeadsTasks x steps c.cluster.tasks) e.tasks all.tasks;
   waiting = subst (λ (x : List Event). LeadsWaiting x steps c.waiting) e.waiting all.waiting;
@@ -67,13 +85,17 @@ leads-from a b c steps e all = record {
 
 pub leads-to : (a b c : LiveState) (steps : List Step) → Same b c → Leads a steps b → Leads a steps c
 leads-to a b c steps e all = record {
+  master = subst (LeadsMaster a.master steps) (sym e.master) all.master;
   body = subst (LeadsBody a.out steps) (sym e.body) all.body;
   tasks = subst (LeadsTasks a.cluster.tasks steps) (sym e.tasks) all.tasks;
   waiting = subst (LeadsWaiting a.waiting steps) (sym e.waiting) all.waiting;
 }
 
+pub leads-none : (a b : LiveState) → Same a b → Leads a [] b
+leads-none a b e = record { master = e.master; body = e.body; tasks = e.tasks; waiting = e.waiting }
+
 pub steps-same : {P : Step → Type 0} (a b : LiveState) → Same a b → StepsTo P a b
-steps-same a b e = record { steps = []; allowed = tt; leads = record { body = e.body; tasks = e.tasks; waiting = e.waiting } }
+steps-same a b e = record { steps = []; allowed = tt; leads = leads-none a b e }
 
 pub steps-then : {P : Step → Type 0} (a b c : LiveState) → StepsTo P a b → StepsTo P b c → StepsTo P a c
 steps-then {P} a b c first next = record {
@@ -111,18 +133,20 @@ steps-one step a b may leads = record { steps = step ∷ []; allowed = (may, tt)
 pub wider-last : {P Q : Step → Type 0} → ((step : Step) → P step → Q step) → {T E : Type 0} (result : Result T E) (a b : LiveState) → OnOk result (StepsTo P a b) → OnOk result (StepsTo Q a b)
 wider-last up result a b last = on_ok_weaker result (steps-wider up a b) last
 
-pub offers-need-none : (event : Event) → IsOffers event → NeedsNone event
-offers-need-none (of.Offers list) is = tt
-offers-need-none (of.Subscribed body) is = absurd is
-offers-need-none (of.Rescind body) is = absurd is
-offers-need-none (of.Update body) is = absurd is
-offers-need-none (of.Message body) is = absurd is
-offers-need-none (of.Failure body) is = absurd is
-offers-need-none (of.Error body) is = absurd is
-offers-need-none of.Heartbeat is = absurd is
-offers-need-none (of.Other name) is = absurd is
+pub offers-reply : (event : Event) → IsOffers event → IsReply event
+offers-reply (of.Offers list) is = tt
+offers-reply (of.Subscribed body) is = absurd is
+offers-reply (of.Rescind body) is = absurd is
+offers-reply (of.Update body) is = absurd is
+offers-reply (of.Message body) is = absurd is
+offers-reply (of.Failure body) is = absurd is
+offers-reply (of.Error body) is = absurd is
+offers-reply of.Heartbeat is = absurd is
+offers-reply (of.Other name) is = absurd is
 
 pub sending-of-delivering : (step : Step) → IsSending step → IsDelivering step
+sending-of-delivering (handles call given) is = is
+sending-of-delivering breaks is = is
 sending-of-delivering (sends now event) is = is
 sending-of-delivering (resends now event) is = is
 sending-of-delivering (relays now event) is = tt
@@ -130,7 +154,7 @@ sending-of-delivering (reports now index update finishes status) is = is
 sending-of-delivering beats is = is
 sending-of-delivering (obeys name) is = tt
 sending-of-delivering (waits other) is = is
-sending-of-delivering (drops event) is = absurd is
+sending-of-delivering (drops event) is = tt
 sending-of-delivering (releases now) is = is
 sending-of-delivering (goes bytes) is = is
 sending-of-delivering clears is = is
@@ -139,10 +163,11 @@ sending-of-delivering takes is = is
 sending-of-delivering (launches launch tasks) is = is
 sending-of-delivering (acknowledges body) is = is
 sending-of-delivering (kills id) is = is
-sending-of-delivering (forgets id) is = tt
 
 pub sending-of-replying : (step : Step) → IsSending step → IsReplying step
-sending-of-replying (sends now event) is = offers-need-none event is
+sending-of-replying (handles call given) is = is
+sending-of-replying breaks is = is
+sending-of-replying (sends now event) is = offers-reply event is
 sending-of-replying (resends now event) is = is
 sending-of-replying (relays now event) is = is
 sending-of-replying (reports now index update finishes status) is = is
@@ -158,9 +183,10 @@ sending-of-replying takes is = is
 sending-of-replying (launches launch tasks) is = is
 sending-of-replying (acknowledges body) is = is
 sending-of-replying (kills id) is = is
-sending-of-replying (forgets id) is = is
 
 pub delivering-of-end : (step : Step) → IsDelivering step → IsEnding step
+delivering-of-end (handles call given) is = is
+delivering-of-end breaks is = tt
 delivering-of-end (sends now event) is = is
 delivering-of-end (resends now event) is = is
 delivering-of-end (relays now event) is = is
@@ -177,9 +203,10 @@ delivering-of-end takes is = is
 delivering-of-end (launches launch tasks) is = is
 delivering-of-end (acknowledges body) is = is
 delivering-of-end (kills id) is = is
-delivering-of-end (forgets id) is = is
 
 pub delivering-of-time : (time : ℕ) (step : Step) → IsDelivering step → IsOfTime time step
+delivering-of-time time (handles call given) is = is
+delivering-of-time time breaks is = is
 delivering-of-time time (sends now event) is = is
 delivering-of-time time (resends now event) is = tt
 delivering-of-time time (relays now event) is = is
@@ -196,9 +223,10 @@ delivering-of-time time takes is = is
 delivering-of-time time (launches launch tasks) is = is
 delivering-of-time time (acknowledges body) is = is
 delivering-of-time time (kills id) is = is
-delivering-of-time time (forgets id) is = is
 
 pub resending-of-time : (time : ℕ) (step : Step) → IsResending step → IsOfTime time step
+resending-of-time time (handles call given) is = absurd is
+resending-of-time time breaks is = absurd is
 resending-of-time time (sends now event) is = absurd is
 resending-of-time time (resends now event) is = tt
 resending-of-time time (relays now event) is = absurd is
@@ -215,7 +243,6 @@ resending-of-time time takes is = absurd is
 resending-of-time time (launches launch tasks) is = absurd is
 resending-of-time time (acknowledges body) is = absurd is
 resending-of-time time (kills id) is = absurd is
-resending-of-time time (forgets id) is = absurd is
 
 sending-of-time : (time : ℕ) (step : Step) → IsSending step → IsOfTime time step
 sending-of-time time step is = delivering-of-time time step (sending-of-delivering step is)
@@ -231,71 +258,87 @@ time-last result time a b c d e first next again last =
 -- ---- one step
 
 -- an event is sent by this step
-pub pushed-leads : (step : Step) (event : Event) (a b : LiveState) → Pushes event a b
+pub pushed-leads : (step : Step) (event : Event) (a b : LiveState) → Pushes event a b → (b.master ≡ a.master → StepsMaster step a.master b.master)
     → (Sends a.time a.out (record_of event) b.out → StepsBody step a.out b.out) → (b.cluster.tasks ≡ a.cluster.tasks → StepsTasks step a.cluster.tasks b.cluster.tasks)
     → (b.waiting ≡ a.waiting → StepsWaiting step a.waiting b.waiting) → Leads a (step ∷ []) b
-pushed-leads step event a b pushes body tasks waiting =
-    leads-one step a b (body pushes.body) (tasks (ap (λ (x : LiveState). x.cluster.tasks) pushes.rest)) (waiting (ap (λ (x : LiveState). x.waiting) pushes.rest))
+pushed-leads step event a b pushes master body tasks waiting =
+    leads-one step a b (master (ap (λ (x : LiveState). x.master) pushes.rest)) (body pushes.body) (tasks (ap (λ (x : LiveState). x.cluster.tasks) pushes.rest))
+    (waiting (ap (λ (x : LiveState). x.waiting) pushes.rest))
 
-pub sent-steps : {P : Step → Type 0} (event : Event) (a b : LiveState) → P (sends a.time event) → Pushes event a b → StepsTo P a b
-sent-steps event a b may pushes = steps-one (sends a.time event) a b may (pushed-leads (sends a.time event) event a b pushes (λ x. x) (λ x. x) (λ x. x))
+-- an event other than OFFERS leaves the test master as it is
+pub no-offers-makes : (event : Event) (m n : MasterState) → IsNoOffers event → n ≡ m → Makes event m n
+no-offers-makes (of.Offers list) m n other is = absurd other
+no-offers-makes (of.Subscribed body) m n other is = is
+no-offers-makes (of.Rescind body) m n other is = is
+no-offers-makes (of.Update body) m n other is = is
+no-offers-makes (of.Message body) m n other is = is
+no-offers-makes (of.Failure body) m n other is = is
+no-offers-makes (of.Error body) m n other is = is
+no-offers-makes of.Heartbeat m n other is = is
+no-offers-makes (of.Other name) m n other is = is
 
--- the first event that waited is sent
-pub relayed-steps : (event : Event) (a b : LiveState) → Pushes event a b → StepsTo IsDelivering (with_first event a) b
-relayed-steps event a b pushes =
-    let waiting : event ∷ a.waiting ≡ event ∷ b.waiting = ap (λ (x : LiveState). event ∷ x.waiting) (sym pushes.rest) in
-    steps-one (relays a.time event) (with_first event a) b tt
-    (leads-one (relays a.time event) (with_first event a) b pushes.body (ap (λ (x : LiveState). x.cluster.tasks) pushes.rest) waiting)
+pub sent-leads : (event : Event) (a b : LiveState) → IsNoOffers event → Pushes event a b → Leads a (sends a.time event ∷ []) b
+sent-leads event a b other pushes = pushed-leads (sends a.time event) event a b pushes (no-offers-makes event a.master b.master other) (λ x. x) (λ x. x) (λ x. x)
 
-pub resent-steps : (event : Event) (a b : LiveState) → Pushes event a b → StepsTo IsResending a b
-resent-steps event a b pushes = steps-one (resends a.time event) a b tt (pushed-leads (resends a.time event) event a b pushes (λ x. x) (λ x. x) (λ x. x))
+pub sent-steps : {P : Step → Type 0} (event : Event) (a b : LiveState) → P (sends a.time event) → IsNoOffers event → Pushes event a b → StepsTo P a b
+sent-steps event a b may other pushes = steps-one (sends a.time event) a b may (sent-leads event a b other pushes)
+
+-- OFFERS were made, and were sent
+pub offered-steps : (list : List Offer) (a b c : LiveState) → offers_sent a.master list ≡ Ok (of.Offers list, b.master) → b.out ≡ a.out → b.cluster.tasks ≡ a.cluster.tasks → b.waiting ≡ a.waiting
+    → b.time ≡ a.time → Pushes (of.Offers list) b c → StepsTo IsSending a c
+offered-steps list a b c made body tasks waiting time pushes =
+    let master : offers_sent a.master list ≡ Ok (of.Offers list, c.master) =
+    subst (λ (m : MasterState). offers_sent a.master list ≡ Ok (of.Offers list, m)) (sym (ap (λ (x : LiveState). x.master) pushes.rest)) made in
+    let from : Sends b.time a.out (record_of (of.Offers list)) c.out = subst (λ (o : BodyState). Sends b.time o (record_of (of.Offers list)) c.out) body pushes.body in
+    let sent : Sends a.time a.out (record_of (of.Offers list)) c.out = subst (λ (now : ℕ). Sends now a.out (record_of (of.Offers list)) c.out) time from in
+    steps-one (sends a.time (of.Offers list)) a c tt
+    (leads-one (sends a.time (of.Offers list)) a c master sent (ap (λ (x : LiveState). x.cluster.tasks) pushes.rest ∙ tasks) (ap (λ (x : LiveState). x.waiting) pushes.rest ∙ waiting))
 
 -- steps, and then a last call that sends an event if it succeeds
-pub push-last : {P : Step → Type 0} {T E : Type 0} (result : Result T E) (event : Event) (a b c : LiveState) → P (sends b.time event) → StepsTo P a b → OnOk result (Pushes event b c)
-    → OnOk result (StepsTo P a c)
-push-last {P} result event a b c may first last = on_ok_weaker result (λ (pushes : Pushes event b c). steps-then a b c first (sent-steps event b c may pushes)) last
+pub push-last : {P : Step → Type 0} {T E : Type 0} (result : Result T E) (event : Event) (a b c : LiveState) → P (sends b.time event) → IsNoOffers event → StepsTo P a b
+    → OnOk result (Pushes event b c) → OnOk result (StepsTo P a c)
+push-last {P} result event a b c may other first last = on_ok_weaker result (λ (pushes : Pushes event b c). steps-then a b c first (sent-steps event b c may other pushes)) last
 
--- the state is the same up to `b`, and a last call sends the first event that waited if it succeeds
-pub relay-last : {T E : Type 0} (result : Result T E) (event : Event) (a b c : LiveState) → b ≡ a → OnOk result (Pushes event b c) → OnOk result (StepsTo IsDelivering (with_first event a) c)
-relay-last result event a b c e last =
-    on_ok_weaker result (λ (pushes : Pushes event b c). subst (λ (x : LiveState). StepsTo IsDelivering (with_first event x) c) e (relayed-steps event b c pushes)) last
+-- the test master, the body, the tasks and the waiting events change by this step
+pub body-steps : {P : Step → Type 0} (step : Step) (a b : LiveState) → P step → StepsMaster step a.master b.master → StepsBody step a.out b.out
+    → StepsTasks step a.cluster.tasks b.cluster.tasks → StepsWaiting step a.waiting b.waiting → StepsTo P a b
+body-steps step a b may master body tasks waiting = steps-one step a b may (leads-one step a b master body tasks waiting)
 
--- the body, the tasks and the waiting events change by this step
-pub body-steps : {P : Step → Type 0} (step : Step) (a b : LiveState) → P step → StepsBody step a.out b.out → StepsTasks step a.cluster.tasks b.cluster.tasks → StepsWaiting step a.waiting b.waiting
-    → StepsTo P a b
-body-steps step a b may body tasks waiting = steps-one step a b may (leads-one step a b body tasks waiting)
-
-obeyed-by : (name : List ℕ) (done : Bool) (a b : LiveState) → done ≡ true → Obeys name a.out b.out done → b.cluster.tasks ≡ a.cluster.tasks → b.waiting ≡ a.waiting
-    → StepsTo IsDelivering (with_first (Other name) a) b
-obeyed-by name true a b on is tasks waiting = body-steps (obeys name) (with_first (Other name) a) b tt is tasks (ap (λ (l : List Event). Other name ∷ l) (sym waiting))
-obeyed-by name false a b on is tasks waiting = absurd (cc)
-
--- What the first event that waited demands by its name was done. `t` is the view of the fields of a live
--- test master of the value `s`.
-pub obeyed-steps : (event : Event) (name shown : List ℕ) (done : Bool) (s t u : LiveState) → event ≡ Other name → shown ≡ name → t ≡ s → done ≡ true → Obeys shown t.out u.out done
-    → u.cluster.tasks ≡ t.cluster.tasks → u.waiting ≡ t.waiting → StepsTo IsDelivering (with_first event s) u
-obeyed-steps event name shown done s t u is text view on by tasks waiting =
-    let obeyed : Obeys name t.out u.out done = subst (λ (n : List ℕ). Obeys n t.out u.out done) text by in
-    let of : StepsTo IsDelivering (with_first (Other name) s) u =
-    subst (λ (x : LiveState). StepsTo IsDelivering (with_first (Other name) x) u) view (obeyed-by name done t u on obeyed tasks waiting) in
-    subst (λ (e : Event). StepsTo IsDelivering (with_first e s) u) (sym is) of
-
-pub written-steps : (count : ℕ) (a b : LiveState) → b.out ≡ written count a.out → b.cluster.tasks ≡ a.cluster.tasks → b.waiting ≡ a.waiting → StepsTo IsTaking a b
-written-steps count a b is tasks waiting =
+pub written-steps : (count : ℕ) (a b : LiveState) → b.master ≡ a.master → b.out ≡ written count a.out → b.cluster.tasks ≡ a.cluster.tasks → b.waiting ≡ a.waiting → StepsTo IsTaking a b
+written-steps count a b master is tasks waiting =
     let bytes : StepsBody (goes (take count a.out.pending)) a.out (written count a.out) = (sym (take-append-drop count a.out.pending), refl) in
-    body-steps (goes (take count a.out.pending)) a b tt (subst (StepsBody (goes (take count a.out.pending)) a.out) (sym is) bytes) tasks waiting
+    body-steps (goes (take count a.out.pending)) a b tt master (subst (StepsBody (goes (take count a.out.pending)) a.out) (sym is) bytes) tasks waiting
+
+-- the stream of the test master is disconnected, and ends
+pub broken-steps : (a b : LiveState) → b.master ≡ stream_broke a.master → b.out ≡ cleared a.out → b.cluster.tasks ≡ a.cluster.tasks → b.waiting ≡ a.waiting → StepsTo IsEnding a b
+broken-steps a b master body tasks waiting = record {
+  steps = breaks ∷ clears ∷ [];
+  allowed = (tt, (tt, tt));
+  leads = record {
+    master = (b.master, master, (b.master, refl, refl));
+    body = (a.out, refl, (b.out, body, refl));
+    tasks = (b.cluster.tasks, tasks, (b.cluster.tasks, refl, refl));
+    waiting = (b.waiting, waiting, (b.waiting, refl, refl));
+  };
+}
+
+-- the stream of the test master is disconnected
+pub disconnected-steps : (a b : LiveState) → b.master ≡ stream_broke a.master → b ≡ record a { master = b.master } → StepsTo IsEnding a b
+disconnected-steps a b master rest =
+    body-steps breaks a b tt master (ap (λ (x : LiveState). x.out) rest) (ap (λ (x : LiveState). x.cluster.tasks) rest) (ap (λ (x : LiveState). x.waiting) rest)
 
 -- ---- the planned faults
 
-noted-steps : (fault : Option CallFault) (number : ℕ) (a b : LiveState) → b.out ≡ record a.out { happened = noted_by fault number a.out.happened } → b.cluster.tasks ≡ a.cluster.tasks
-    → b.waiting ≡ a.waiting → StepsTo IsNoting a b
-noted-steps None number a b is tasks waiting = steps-same a b (record { body = is; tasks = tasks; waiting = waiting })
-noted-steps (Some fault) number a b is tasks waiting = body-steps (notes (planned.Call number fault)) a b tt is tasks waiting
+noted-steps : (fault : Option CallFault) (number : ℕ) (a b : LiveState) → b.master ≡ a.master → b.out ≡ record a.out { happened = noted_by fault number a.out.happened }
+    → b.cluster.tasks ≡ a.cluster.tasks → b.waiting ≡ a.waiting → StepsTo IsNoting a b
+noted-steps None number a b master is tasks waiting = steps-same a b (record { master = master; body = is; tasks = tasks; waiting = waiting })
+noted-steps (Some fault) number a b master is tasks waiting = body-steps (notes (planned.Call number fault)) a b tt master is tasks waiting
 
-counted-by : (idle : Bool) (a b : LiveState) → b.out ≡ (if idle then noted a else a.out) → b.cluster.tasks ≡ a.cluster.tasks → b.waiting ≡ a.waiting → StepsTo IsNoting a b
-counted-by true a b is tasks waiting = noted-steps (planned_fault a) (next_call a) a b is tasks waiting
-counted-by false a b is tasks waiting = steps-same a b (record { body = is; tasks = tasks; waiting = waiting })
+counted-by : (idle : Bool) (a b : LiveState) → b.master ≡ a.master → b.out ≡ (if idle then noted a else a.out) → b.cluster.tasks ≡ a.cluster.tasks → b.waiting ≡ a.waiting
+    → StepsTo IsNoting a b
+counted-by true a b master is tasks waiting = noted-steps (planned_fault a) (next_call a) a b master is tasks waiting
+counted-by false a b master is tasks waiting = steps-same a b (record { master = master; body = is; tasks = tasks; waiting = waiting })
 
 pub counted-steps : (a b : LiveState) → b ≡ call_counted a → StepsTo IsNoting a b
 counted-steps a b is =
-    counted-by (a.busy == 0) a b (ap (λ (x : LiveState). x.out) is) (ap (λ (x : LiveState). x.cluster.tasks) is) (ap (λ (x : LiveState). x.waiting) is)
+    counted-by (a.busy == 0) a b (ap (λ (x : LiveState). x.master) is) (ap (λ (x : LiveState). x.out) is) (ap (λ (x : LiveState). x.cluster.tasks) is) (ap (λ (x : LiveState). x.waiting) is)

@@ -1,72 +1,76 @@
 -- How events from outside wait, and are taken in order.
-use Rattle.std.proofs.Common.{◌≡◌, ◌∙◌, List, [], ◌∷◌, ◌++◌, Result, refl, sym, ap, subst}
+use Rattle.std.proofs.Common.{◌≡◌, ◌∙◌, inl, inr, ℕ, Bool, true, false, List, [], ◌∷◌, ◌++◌, Result, sym, ap, subst}
 use Rattle.std.proofs.lemmas.List.{append-nil, append_assoc}
 use Rattle.std.proofs.lemmas.Result.{on_ok_weaker}
-use Rattle.std.specs.List.{AllByRecursion, flat_map}
+use Rattle.std.specs.List.{flat_map}
 use Rattle.std.specs.Result.{OnOk}
 use Rattle.mes_msg.specs.Event.{Event}
-use Rattle.mes_double_live.specs.Lives.{LiveState, with_first, with_last}
-use Rattle.mes_double_live.specs.Steps.{Step, StepsWaiting, LeadsWaiting, Leads, BeginsWith, StepsTo, IsForgetting, IsRescindOrUpdate, IsDelivering, arrived_by, taken_by}
-use Rattle.mes_double_live.specs.Steps.Step.{sends, resends, relays, reports, beats, obeys, waits, drops, releases, goes, clears, notes, takes, launches, acknowledges, kills, forgets}
-use Rattle.mes_double_live.proofs.StepLemmas.{all-wider, body-steps, leads-one, leads-then, steps-then}
+use Rattle.mes_msg.specs.Event.TheVariants.{Other}
+use Rattle.mes_double_live.specs.Arriving.{Admitted, AdmitsIf, Delivers, Obeyed}
+use Rattle.mes_double_live.specs.Bodies.{BodyState, Obeys, Sends}
+use Rattle.mes_double_live.specs.Lives.{LiveState, Pushes, record_of, with_first, with_last}
+use Rattle.mes_double_live.specs.Steps.{Step, StepsWaiting, LeadsWaiting, Leads, Admits, BeginsWith, StepsTo, IsDelivering, arrived_by, taken_by}
+use Rattle.mes_double_live.specs.Steps.Step.{handles, breaks, sends, resends, relays, reports, beats, obeys, waits, drops, releases, goes, clears, notes, takes, launches, acknowledges, kills}
+use Rattle.mes_double_live.proofs.StepLemmas.{body-steps, leads-one, leads-then}
 
-pub forgetting-of-delivering : (step : Step) → IsForgetting step → IsDelivering step
-forgetting-of-delivering (sends now sent) is = absurd is
-forgetting-of-delivering (resends now sent) is = absurd is
-forgetting-of-delivering (relays now sent) is = absurd is
-forgetting-of-delivering (reports now index update finishes status) is = absurd is
-forgetting-of-delivering beats is = absurd is
-forgetting-of-delivering (obeys name) is = absurd is
-forgetting-of-delivering (waits other) is = absurd is
-forgetting-of-delivering (drops other) is = absurd is
-forgetting-of-delivering (releases now) is = absurd is
-forgetting-of-delivering (goes bytes) is = absurd is
-forgetting-of-delivering clears is = absurd is
-forgetting-of-delivering (notes fault) is = absurd is
-forgetting-of-delivering takes is = absurd is
-forgetting-of-delivering (launches launch tasks) is = absurd is
-forgetting-of-delivering (acknowledges body) is = absurd is
-forgetting-of-delivering (kills id) is = absurd is
-forgetting-of-delivering (forgets id) is = tt
+-- the first event that waited was admitted, and was sent
+relayed : (event : Event) (a b c : LiveState) → Admitted event a b → Pushes event b c → StepsTo IsDelivering (with_first event a) c
+relayed event a b c is pushes =
+    let master : Admits event a.master c.master = subst (Admits event a.master) (sym (ap (λ (x : LiveState). x.master) pushes.rest)) is.master in
+    let body : Sends b.time a.out (record_of event) c.out = subst (λ (o : BodyState). Sends b.time o (record_of event) c.out) is.body pushes.body in
+    let waiting : event ∷ a.waiting ≡ event ∷ c.waiting = ap (λ (l : List Event). event ∷ l) (sym (ap (λ (x : LiveState). x.waiting) pushes.rest ∙ is.waiting)) in
+    body-steps (relays b.time event) (with_first event a) c tt master body (ap (λ (x : LiveState). x.cluster.tasks) pushes.rest ∙ is.tasks) waiting
 
--- tasks are forgotten whatever events wait
-forgets-waiting : (event : Event) (steps : List Step) (old new : List Event) → AllByRecursion IsForgetting steps → LeadsWaiting old steps new → LeadsWaiting (event ∷ old) steps (event ∷ new)
-forgets-waiting event [] old new all leads = ap (λ (l : List Event). event ∷ l) leads
-forgets-waiting event (forgets id ∷ steps) old new all (next, is, rest) =
-    (event ∷ next, ap (λ (l : List Event). event ∷ l) is, forgets-waiting event steps next new all.1 rest)
-forgets-waiting event (sends now sent ∷ steps) old new all leads = absurd all.0
-forgets-waiting event (resends now sent ∷ steps) old new all leads = absurd all.0
-forgets-waiting event (relays now sent ∷ steps) old new all leads = absurd all.0
-forgets-waiting event (reports now index update finishes status ∷ steps) old new all leads = absurd all.0
-forgets-waiting event (beats ∷ steps) old new all leads = absurd all.0
-forgets-waiting event (obeys name ∷ steps) old new all leads = absurd all.0
-forgets-waiting event (waits other ∷ steps) old new all leads = absurd all.0
-forgets-waiting event (drops other ∷ steps) old new all leads = absurd all.0
-forgets-waiting event (releases now ∷ steps) old new all leads = absurd all.0
-forgets-waiting event (goes bytes ∷ steps) old new all leads = absurd all.0
-forgets-waiting event (clears ∷ steps) old new all leads = absurd all.0
-forgets-waiting event (notes fault ∷ steps) old new all leads = absurd all.0
-forgets-waiting event (takes ∷ steps) old new all leads = absurd all.0
-forgets-waiting event (launches launch tasks ∷ steps) old new all leads = absurd all.0
-forgets-waiting event (acknowledges body ∷ steps) old new all leads = absurd all.0
-forgets-waiting event (kills id ∷ steps) old new all leads = absurd all.0
+-- what the first event that waited demands was done
+obeyed-by : (name : List ℕ) (a b c : LiveState) → Admitted (Other name) a b → Obeys name b.out c.out true → c ≡ record b { out = c.out }
+    → StepsTo IsDelivering (with_first (Other name) a) c
+obeyed-by name a b c is done rest =
+    let body : Obeys name a.out c.out true = subst (λ (o : BodyState). Obeys name o c.out true) is.body done in
+    let waiting : Other name ∷ a.waiting ≡ Other name ∷ c.waiting = ap (λ (l : List Event). Other name ∷ l) (sym (ap (λ (x : LiveState). x.waiting) rest ∙ is.waiting)) in
+    body-steps (obeys name) (with_first (Other name) a) c tt (ap (λ (x : LiveState). x.master) rest ∙ is.master) body (ap (λ (x : LiveState). x.cluster.tasks) rest ∙ is.tasks) waiting
 
-forgotten-first : (event : Event) (a b : LiveState) → StepsTo IsForgetting a b → StepsTo IsDelivering (with_first event a) (with_first event b)
-forgotten-first event a b all = record {
-  steps = all.steps;
-  allowed = all-wider forgetting-of-delivering all.steps all.allowed;
-  leads = record { body = all.leads.body; tasks = all.leads.tasks; waiting = forgets-waiting event all.steps a.waiting b.waiting all.allowed all.leads.waiting };
-}
+obeyed : (event : Event) (a b c : LiveState) → Admitted event a b → Obeyed event b c → StepsTo IsDelivering (with_first event a) c
+obeyed event a b c is by =
+    subst (λ (e : Event). StepsTo IsDelivering (with_first e a) c) (sym by.is)
+    (obeyed-by by.name a b c (subst (λ (e : Event). Admitted e a b) by.is is) by.done by.rest)
+
+delivered : (event : Event) (a b c : LiveState) → Admitted event a b → Delivers event b c → StepsTo IsDelivering (with_first event a) c
+delivered event a b c is by = elim by [
+  | inl pushes ↦ relayed event a b c is pushes
+  | inr done ↦ obeyed event a b c is done
+]
 
 -- the first event that waited is admitted, and then sent by a last call if it succeeds
-pub admitted-last : {T E : Type 0} (result : Result T E) (event : Event) (a b c : LiveState) → StepsTo IsForgetting a b → OnOk result (StepsTo IsDelivering (with_first event b) c)
+pub admitted-last : {T E : Type 0} (result : Result T E) (event : Event) (admits : Bool) (a b c : LiveState) → admits ≡ true → AdmitsIf admits event a b → OnOk result (Delivers event b c)
     → OnOk result (StepsTo IsDelivering (with_first event a) c)
-admitted-last result event a b c first last = on_ok_weaker result (steps-then (with_first event a) (with_first event b) c (forgotten-first event a b first)) last
+admitted-last result event true a b c on is last = on_ok_weaker result (delivered event a b c is) last
+admitted-last result event false a b c on is last = absurd (cc)
 
 -- the first event that waited is dropped
-pub dropped-steps : (event : Event) (a b : LiveState) → StepsTo IsForgetting a b → IsRescindOrUpdate event → StepsTo IsDelivering (with_first event a) b
-dropped-steps event a b first may =
-    steps-then (with_first event a) (with_first event b) b (forgotten-first event a b first) (body-steps (drops event) (with_first event b) b may refl refl refl)
+pub dropped-steps : (event : Event) (admits : Bool) (a b : LiveState) → admits ≡ false → AdmitsIf admits event a b → StepsTo IsDelivering (with_first event a) b
+dropped-steps event true a b off is = absurd (cc)
+dropped-steps event false a b off is =
+    let e = is.1 in
+    body-steps (drops event) (with_first event a) b tt (is.0, ap (λ (x : LiveState). x.master) e) (ap (λ (x : LiveState). x.out) e) (ap (λ (x : LiveState). x.cluster.tasks) e)
+    (ap (λ (x : LiveState). event ∷ x.waiting) (sym e))
+
+-- the event demands nothing, and was sent
+pub sent-delivers : (event : Event) (a b c : LiveState) → b ≡ a → Pushes event b c → Delivers event a c
+sent-delivers event a b c e pushes = inl (subst (λ (x : LiveState). Pushes event x c) e pushes)
+
+-- What the event demands by its name was done. `t` is the view of the fields of a live test master of the
+-- value `s`.
+pub obeyed-is : (event : Event) (name shown : List ℕ) (done : Bool) (s t u : LiveState) → event ≡ Other name → shown ≡ name → t ≡ s → done ≡ true → Obeys shown t.out u.out done
+    → u ≡ record t { out = u.out } → Obeyed event s u
+obeyed-is event name shown done s t u is text view on by rest =
+    let named : Obeys name t.out u.out done = subst (λ (n : List ℕ). Obeys n t.out u.out done) text by in
+    let obeyed : Obeys name t.out u.out true = subst (Obeys name t.out u.out) on named in
+    record {
+      name = name;
+      is = is;
+      done = subst (λ (x : LiveState). Obeys name x.out u.out true) view obeyed;
+      rest = rest ∙ ap (λ (x : LiveState). record x { out = u.out }) view;
+    }
 
 -- the event that was taken from the front is sent by a last call if it succeeds
 pub taken-last : {T E : Type 0} (result : Result T E) (event : Event) (a b c : LiveState) → a ≡ with_first event b → OnOk result (StepsTo IsDelivering (with_first event b) c)
@@ -75,15 +79,12 @@ taken-last {T} {E} result event a b c is last = subst (λ (x : LiveState). OnOk 
 
 stored-leads : (event : Event) (a b : LiveState) → b ≡ with_last event a → Leads a (waits event ∷ []) b
 stored-leads event a b is =
-    leads-one (waits event) a b (ap (λ (x : LiveState). x.out) is) (ap (λ (x : LiveState). x.cluster.tasks) is) (ap (λ (x : LiveState). x.waiting) is)
+    leads-one (waits event) a b (ap (λ (x : LiveState). x.master) is) (ap (λ (x : LiveState). x.out) is) (ap (λ (x : LiveState). x.cluster.tasks) is) (ap (λ (x : LiveState). x.waiting) is)
 
 -- an event joins those that wait, and then events are sent
 pub stored-begins : (event : Event) (a b c : LiveState) → b ≡ with_last event a → StepsTo IsDelivering b c → BeginsWith IsDelivering (waits event ∷ []) a c
 stored-begins event a b c is after =
     record { rest = after.steps; allowed = after.allowed; leads = leads-then a b c (waits event ∷ []) after.steps (stored-leads event a b is) after.leads }
-
-pub begins-none : (a b : LiveState) → StepsTo IsDelivering a b → BeginsWith IsDelivering [] a b
-begins-none a b all = record { rest = all.steps; allowed = all.allowed; leads = all.leads }
 
 -- ---- the order of events
 
@@ -109,7 +110,8 @@ step-order takes old next is = append-nil old ∙ sym is
 step-order (launches launch tasks) old next is = append-nil old ∙ sym is
 step-order (acknowledges body) old next is = append-nil old ∙ sym is
 step-order (kills id) old next is = append-nil old ∙ sym is
-step-order (forgets id) old next is = append-nil old ∙ sym is
+step-order (handles call given) old next is = append-nil old ∙ sym is
+step-order breaks old next is = append-nil old ∙ sym is
 
 pub waiting-order : (old new : List Event) (steps : List Step) → LeadsWaiting old steps new → old ++ flat_map arrived_by steps ≡ flat_map taken_by steps ++ new
 waiting-order old new [] leads = append-nil old ∙ sym leads

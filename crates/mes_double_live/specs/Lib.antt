@@ -2,7 +2,9 @@ pub mod Bodies
 pub mod Lives
 pub mod Logs
 pub mod Moving
+pub mod Launching
 pub mod Steps
 pub mod Reports
 pub mod Arriving
 pub mod Opening
+pub mod Calling

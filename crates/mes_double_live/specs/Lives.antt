@@ -157,8 +157,3 @@ resets (Some Reset) = true
 -- the status of the response to a call: that of the test master's response, or that of its fault
 abbrev pub call_status : LiveState → Call → Option (List ℕ) → ℕ
 call_status live c stream = status_by (reply_fault live) (handled live.master c stream).status
-
--- only a response with status 200 opens a stream
-abbrev pub OpensBy : Option (List ℕ) → ℕ → Type 0
-OpensBy None status = Unit {0}
-OpensBy (Some id) status = status ≡ 200

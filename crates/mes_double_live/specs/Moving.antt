@@ -1,9 +1,10 @@
 -- How the test master of a live test master changes: by its own deeds, each of which launches only
 -- tasks that fit.
-use Rattle.std.specs.Prelude.{◌≡◌, ℕ, List, [], ◌∷◌, take, slice_get, Option, Some}
+use Rattle.std.specs.Prelude.{◌≡◌, ℕ, true, List, [], ◌∷◌, take, slice_get, Option, Some}
 use Rattle.mes_model.specs.Id.{Id}
 use Rattle.mes_msg.specs.Call.{Call}
 use Rattle.mes_session_fit.specs.Fits.{Fits}
+use Rattle.mes_double_master.specs.Agents.{are_there}
 use Rattle.mes_double_master.specs.Masters.{MasterState, handled}
 use Rattle.mes_double_master.specs.Runs.{Deed, Past, after, past_of, LaunchedOnce, TakenOnce}
 use Rattle.mes_double_master.specs.Runs.Deed.{handles}
@@ -13,6 +14,11 @@ use Rattle.mes_double_master.specs.Runs.Deed.{handles}
 -- the tasks that a call launches fit the offers that the call takes
 abbrev pub LaunchFits : MasterState → Call → Option (List ℕ) → Type 0
 LaunchFits m call stream = Fits (handled m call stream).took (handled m call stream).ran
+
+-- what a call launches fits the offers that it takes, and is of their agent
+pub record IsWhole (m : MasterState) (call : Call) (stream : Option (List ℕ)) : Type 0 where
+  pub fits : LaunchFits m call stream
+  pub there : are_there (handled m call stream).took (handled m call stream).ran ≡ true
 
 -- if the deed is a call, the tasks that it launches fit the offers that it takes
 abbrev pub DeedFits : MasterState → Deed → Type 0

@@ -8,7 +8,7 @@ use Rattle.mes_msg.specs.Event.TheVariants.{Error}
 use Rattle.mes_double_master.specs.Masters.{MasterState, subscribed_event, update_event}
 use Rattle.mes_double_master.specs.Sending.{waiting}
 use Rattle.mes_double_live.specs.Lives.{LiveState}
-use Rattle.mes_double_live.specs.Steps.{Step, Leads, IsDelivering, BeginsWith}
+use Rattle.mes_double_live.specs.Steps.{Step, Leads}
 use Rattle.mes_double_live.specs.Steps.Step.{sends, resends, beats, clears}
 
 -- the state changes by these steps, and the time is the same
@@ -47,8 +47,3 @@ beginning now events updates = sending now events ++ beats ∷ resending now upd
 abbrev pub opening : LiveState → List Step
 opening live = replacing live.time live.master.stream
     ++ beginning live.time (subscribed_event live.master.framework live.master.interval ∷ []) (unacknowledged live.master)
-
--- if a stream was opened, it is the test master's after the call, and begins so
-abbrev pub OpensIf : Option (List ℕ) → MasterState → LiveState → LiveState → Type 0
-OpensIf None m old new = Unit {0}
-OpensIf (Some id) m old new = (m.stream ≡ Some id) × BeginsWith IsDelivering (opening old) old new

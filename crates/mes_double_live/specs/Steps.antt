@@ -1,8 +1,9 @@
--- How the body of the current stream, the tasks of the cluster, and the events that wait change: by
--- steps. Times are in milliseconds.
-use Rattle.std.specs.Prelude.{◌≡◌, ℕ, ◌==◌, if◌then◌else◌, List, [], ◌∷◌, ◌++◌, filter, map, slice_get, not, Option, None, Some, true}
+-- How the test master, the body of the current stream, the tasks of the cluster, and the events that
+-- wait change: by steps. Times are in milliseconds.
+use Rattle.std.specs.Prelude.{◌≡◌, ◌⊎◌, ℕ, if◌then◌else◌, List, [], ◌∷◌, ◌++◌, filter, map, slice_get, not, option_map, Option, None, Some, Ok, true, IsErr}
 use Rattle.std.specs.List.{AllByRecursion, flat_map}
 use Rattle.mes_model.specs.Id.{Id}
+use Rattle.mes_model.specs.Offer.{Offer}
 use Rattle.mes_model.specs.Owed.{owed_key_of}
 use Rattle.mes_model.specs.TaskInfo.{TaskInfo}
 use Rattle.mes_model.specs.TaskStatus.{TaskStatus}
@@ -10,22 +11,29 @@ use Rattle.mes_msg.specs.Acknowledge.{Acknowledge}
 use Rattle.mes_msg.specs.Call.{Call}
 use Rattle.mes_msg.specs.Call.TheVariants as of
 use Rattle.mes_msg.specs.Event.{Event}
-use Rattle.mes_msg.specs.Event.TheVariants.{Heartbeat, Offers, Other, Rescind, Update}
+use Rattle.mes_msg.specs.Event.TheVariants.{Failure, Heartbeat, Message, Offers, Other, Rescind, Update}
 use Rattle.mes_msg.specs.Events as kinds
 use Rattle.mes_stream.specs.Sending.{records_of}
 use Rattle.mes_double_cluster.specs.Clusters.{status_of}
 use Rattle.mes_double_cluster.specs.Stock.{same_id}
 use Rattle.mes_double_cluster.specs.Tasks as task
-use Rattle.mes_double_cluster.specs.TaskProgress.{is_over}
+use Rattle.mes_double_cluster.specs.TaskProgress.{is_last, is_over}
+use Rattle.mes_double_cluster.specs.Times.{saturated_sum}
 use Rattle.mes_double_cluster.specs.declared.task.Task.{Task}
 use Rattle.mes_double_faults.specs.Plans.{Plan, event_fault}
 use Rattle.mes_double_faults.specs.declared.fault.Fault.{Fault}
-use Rattle.mes_double_master.specs.Masters.{is_subscribe, update_event}
+use Rattle.mes_double_master.specs.Masters.{MasterState, handled, is_subscribe, stream_broke, update_event}
+use Rattle.mes_double_master.specs.Sending.{offers_sent, rescind_sent, resend_sent, update_sent}
 use Rattle.mes_double_live.specs.Bodies.{BodyState, cleared, released, Obeys, Sends, Beats}
 use Rattle.mes_double_live.specs.Lives.{LiveState, record_of}
+use Rattle.mes_double_live.specs.Moving.{LaunchFits, IsWhole}
 
 pub data Step : Type 0 where
-  -- an event that did not wait is sent at this time
+  -- the test master is given a call that names this stream, or none
+  handles : (call : Call) (given : Option (List ℕ)) → Step
+  -- the current stream of the test master is disconnected
+  breaks : Step
+  -- an event that did not wait is sent at this time; OFFERS are made by the same step
   sends : (now : ℕ) (event : Event) → Step
   -- an update is sent again
   resends : (now : ℕ) (event : Event) → Step
@@ -40,7 +48,7 @@ pub data Step : Type 0 where
   obeys : (name : List ℕ) → Step
   -- an event from outside joins those that wait
   waits : (event : Event) → Step
-  -- the first event that waits is dropped
+  -- the first event that waits is dropped, since the test master refuses it
   drops : (event : Event) → Step
   -- the bytes that are held may be written, if their time has come
   releases : (now : ℕ) → Step
@@ -58,8 +66,54 @@ pub data Step : Type 0 where
   acknowledges : (body : Acknowledge) → Step
   -- a task is killed
   kills : (id : Id) → Step
-  -- the tasks with this identifier are forgotten
-  forgets : (id : Id) → Step
+
+-- ---- the test master
+
+-- OFFERS are made; any other event leaves the test master as it is
+abbrev pub Makes : Event → MasterState → MasterState → Type 0
+Makes (Offers list) old new = offers_sent old list ≡ Ok (Offers list, new)
+Makes event old new = new ≡ old
+
+-- the event is no OFFERS
+abbrev pub IsNoOffers : Event → Type 0
+IsNoOffers (Offers list) = ⊥
+IsNoOffers event = Unit {0}
+
+-- the test master sends a RESCIND or an UPDATE from outside; any other event leaves it as it is
+abbrev pub Admits : Event → MasterState → MasterState → Type 0
+Admits (Rescind body) old new = rescind_sent old body.offer_id.value ≡ Ok (Rescind body, new)
+Admits (Update body) old new = update_sent old body.status ≡ Ok (Update body, new)
+Admits event old new = new ≡ old
+
+-- the test master refuses the RESCIND or the UPDATE
+abbrev pub Refuses : Event → MasterState → Type 0
+Refuses (Rescind body) m = IsErr (rescind_sent m body.offer_id.value)
+Refuses (Update body) m = IsErr (update_sent m body.status)
+Refuses event m = ⊥
+
+-- The test master handled the call; or another one, if the tasks that the call launches do not all fit
+-- the offers that it takes, or are not of their agent. What it launched fits.
+pub record Handles (call : Call) (given : Option (List ℕ)) (old new : MasterState) : Type 0 where
+  pub done : Call
+  pub fits : LaunchFits old done given
+  pub is : new ≡ (handled old done given).master
+  pub whole : IsWhole old call given → new ≡ (handled old call given).master
+
+-- the step leads from one state of the test master to another
+abbrev pub StepsMaster : Step → MasterState → MasterState → Type 0
+StepsMaster (handles call given) old new = Handles call given old new
+StepsMaster breaks old new = new ≡ stream_broke old
+StepsMaster (sends now event) old new = Makes event old new
+StepsMaster (resends now event) old new = (index : ℕ) × (resend_sent old index ≡ Ok (event, new))
+StepsMaster (relays now event) old new = Admits event old new
+StepsMaster (reports now index update finishes status) old new = update_sent old status ≡ Ok (update_event status, new)
+StepsMaster (drops event) old new = Refuses event old × (new ≡ old)
+StepsMaster _ old new = new ≡ old
+
+-- the steps lead from one state of the test master to another
+abbrev pub LeadsMaster : MasterState → List Step → MasterState → Type 0
+LeadsMaster old [] new = new ≡ old
+LeadsMaster old (step ∷ steps) new = (next : MasterState) × StepsMaster step old next × LeadsMaster next steps new
 
 -- ---- the body
 
@@ -85,15 +139,21 @@ LeadsBody old (step ∷ steps) new = (next : BodyState) × StepsBody step old ne
 
 -- ---- the tasks
 
+-- the tasks after an UPDATE from outside: those whose last state it reports are forgotten
+abbrev pub overtaken_by : Event → List Task → List Task
+overtaken_by (Update body) tasks =
+    if is_last body.status.state then filter (λ (t : Task). not (same_id t.id body.status.task_id)) tasks else tasks
+overtaken_by event tasks = tasks
+
 -- the step leads from one list of tasks to another; a task is forgotten once its last state is
 -- acknowledged
 abbrev pub StepsTasks : Step → List Task → List Task → Type 0
+StepsTasks (relays now event) old new = new ≡ overtaken_by event old
 StepsTasks (reports now index update finishes status) old new =
     (status_of update now (slice_get old index) ≡ Some status) × (new ≡ task.reported_at index status.state update finishes old)
 StepsTasks (launches launch tasks) old new = new ≡ old ++ map (task.launched launch) tasks
 StepsTasks (acknowledges body) old new = new ≡ filter (λ (t : Task). not (is_over t.progress)) (map (task.acknowledged body) old)
 StepsTasks (kills id) old new = new ≡ map (task.killed id) old
-StepsTasks (forgets id) old new = new ≡ filter (λ (t : Task). not (same_id t.id id)) old
 StepsTasks _ old new = new ≡ old
 
 -- the steps lead from one list of tasks to another
@@ -126,13 +186,35 @@ taken_by (obeys name) = Other name ∷ []
 taken_by (drops event) = event ∷ []
 taken_by _ = []
 
--- ---- all three
+-- ---- all four
 
--- the steps lead from the body, the tasks and the waiting events of one state to those of another
+-- the steps lead from the test master, the body, the tasks and the waiting events of one state to
+-- those of another
 pub record Leads (old : LiveState) (steps : List Step) (new : LiveState) : Type 0 where
+  pub master : LeadsMaster old.master steps new.master
   pub body : LeadsBody old.out steps new.out
   pub tasks : LeadsTasks old.cluster.tasks steps new.cluster.tasks
   pub waiting : LeadsWaiting old.waiting steps new.waiting
+
+-- the step leads from one state to another, but for the test master, which is the same
+pub record StepsBut (step : Step) (old new : LiveState) : Type 0 where
+  pub master : new.master ≡ old.master
+  pub body : StepsBody step old.out new.out
+  pub tasks : StepsTasks step old.cluster.tasks new.cluster.tasks
+  pub waiting : StepsWaiting step old.waiting new.waiting
+
+-- the next status of the task at an index is sent now, in the next update
+abbrev pub reporting : ℕ → TaskStatus → LiveState → Step
+reporting index status live = reports live.time index live.cluster.updates (option_map (saturated_sum live.time) live.cluster.finish_after) status
+
+-- the offers are made, and are sent in one event; or there are none
+abbrev pub MakesAll : List Offer → MasterState → MasterState → Type 0
+MakesAll [] old new = new ≡ old
+MakesAll (offer ∷ offers) old new = Makes (Offers (offer ∷ offers)) old new
+
+-- one more offer was made, which is the last of the list; or none was
+abbrev pub MakesMore : List Offer → MasterState → List Offer → MasterState → Type 0
+MakesMore made old more new = ((more ≡ made) × (new ≡ old)) ⊎ ((offer : Offer) × (more ≡ made ++ offer ∷ []) × Makes (Offers (offer ∷ [])) old new)
 
 -- some steps lead from one state to another, and each is allowed
 pub record StepsTo (IsAllowed : Step → Type 0) (old new : LiveState) : Type 0 where
@@ -142,19 +224,9 @@ pub record StepsTo (IsAllowed : Step → Type 0) (old new : LiveState) : Type 0 
 
 -- ---- what is allowed
 
--- the event is no update that requires an acknowledgement
-abbrev pub NeedsNone : Event → Type 0
-NeedsNone (Update body) = owed_key_of body.status ≡ None
-NeedsNone _ = Unit {0}
-
 abbrev pub IsOffers : Event → Type 0
 IsOffers (Offers list) = Unit {0}
 IsOffers _ = ⊥
-
-abbrev pub IsRescindOrUpdate : Event → Type 0
-IsRescindOrUpdate (Rescind body) = Unit {0}
-IsRescindOrUpdate (Update body) = Unit {0}
-IsRescindOrUpdate _ = ⊥
 
 -- what is due is sent: next states of tasks, HEARTBEATs, and OFFERS
 abbrev pub IsSending : Step → Type 0
@@ -163,24 +235,18 @@ IsSending (reports now index update finishes status) = Unit {0}
 IsSending beats = Unit {0}
 IsSending _ = ⊥
 
--- Events that wait are taken too: an event is sent, or what it demands is done, or it is dropped. The
--- task whose last state an UPDATE reports is forgotten.
+-- events that wait are taken too: an event is sent, or what it demands is done, or it is dropped
 abbrev pub IsDelivering : Step → Type 0
 IsDelivering (relays now event) = Unit {0}
 IsDelivering (obeys name) = Unit {0}
-IsDelivering (drops event) = IsRescindOrUpdate event
-IsDelivering (forgets id) = Unit {0}
+IsDelivering (drops event) = Unit {0}
 IsDelivering step = IsSending step
 
 -- the stream also ends
 abbrev pub IsEnding : Step → Type 0
+IsEnding breaks = Unit {0}
 IsEnding clears = Unit {0}
 IsEnding step = IsDelivering step
-
--- tasks are forgotten
-abbrev pub IsForgetting : Step → Type 0
-IsForgetting (forgets id) = Unit {0}
-IsForgetting _ = ⊥
 
 -- updates are sent again
 abbrev pub IsResending : Step → Type 0
@@ -192,9 +258,17 @@ abbrev pub IsNoting : Step → Type 0
 IsNoting (notes fault) = Unit {0}
 IsNoting _ = ⊥
 
--- a call also has events sent that require no acknowledgement
+-- OFFERS, MESSAGE, FAILURE, or an UPDATE that requires no acknowledgement
+abbrev pub IsReply : Event → Type 0
+IsReply (Offers list) = Unit {0}
+IsReply (Update body) = owed_key_of body.status ≡ None
+IsReply (Message body) = Unit {0}
+IsReply (Failure body) = Unit {0}
+IsReply _ = ⊥
+
+-- a call also has such events sent
 abbrev pub IsReplying : Step → Type 0
-IsReplying (sends now event) = NeedsNone event
+IsReplying (sends now event) = IsReply event
 IsReplying step = IsSending step
 
 -- ACCEPT also launches tasks
@@ -209,16 +283,12 @@ IsAccept _ = ⊥
 abbrev pub IsSubscribe : Call → Type 0
 IsSubscribe call = is_subscribe call ≡ true
 
--- A call also has its planned fault noted, and may end a stream. Only ACCEPT launches tasks, and only
--- SUBSCRIBE has updates sent again, and takes events that wait.
+-- A call also may end a stream. Only ACCEPT launches tasks, and only SUBSCRIBE takes events that wait.
 abbrev pub IsOfCall : Call → Step → Type 0
-IsOfCall call (resends now event) = IsSubscribe call
 IsOfCall call (relays now event) = IsSubscribe call
 IsOfCall call (obeys name) = IsSubscribe call
-IsOfCall call (drops event) = IsSubscribe call × IsRescindOrUpdate event
-IsOfCall call (forgets id) = IsSubscribe call
+IsOfCall call (drops event) = IsSubscribe call
 IsOfCall call clears = Unit {0}
-IsOfCall call (notes fault) = Unit {0}
 IsOfCall call (launches launch tasks) = IsAccept call
 IsOfCall call step = IsReplying step
 
@@ -227,24 +297,6 @@ pub record BeginsWith (IsAllowed : Step → Type 0) (steps : List Step) (old new
   pub rest : List Step
   pub allowed : AllByRecursion IsAllowed rest
   pub leads : Leads old (steps ++ rest) new
-
--- the step that a carried out ACKNOWLEDGE or KILL has
-abbrev pub demanded_by : Call → List Step
-demanded_by (of.Acknowledge framework body) = acknowledges body ∷ []
-demanded_by (of.Kill framework body) = kills body.task_id ∷ []
-demanded_by _ = []
-
--- the step that a call has whose response has this status
-abbrev pub demanded : Call → ℕ → List Step
-demanded call status = if status == 202 then demanded_by call else []
-
--- the state changes by these steps, and before and after them only by steps that are allowed
-pub record StepsWith (IsAllowed : Step → Type 0) (steps : List Step) (old new : LiveState) : Type 0 where
-  pub before : List Step
-  pub after : List Step
-  pub first : AllByRecursion IsAllowed before
-  pub last : AllByRecursion IsAllowed after
-  pub leads : Leads old (before ++ steps ++ after) new
 
 -- the time also has updates sent again, and releases bytes that are held
 abbrev pub IsOfTime : ℕ → Step → Type 0

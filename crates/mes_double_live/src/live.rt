@@ -8,7 +8,8 @@ ghost use Rattle.mes_double_live.specs.Bodies.{empty, written, breaks_now, relea
 ghost use Rattle.mes_double_live.specs.Lives.{at_time, broke, faults_taken, new_live};
 ghost use Rattle.mes_double_live.specs.Moving.{Moves};
 ghost use Rattle.mes_double_live.specs.Opening.{ChangesBy};
-ghost use Rattle.mes_double_live.specs.Steps.{StepsTo, IsSending, IsEnding, IsOfTime, IsTaking};
+ghost use Rattle.mes_double_master.specs.Masters.{stream_broke};
+ghost use Rattle.mes_double_live.specs.Steps.{MakesAll, MakesMore, StepsTo, IsSending, IsEnding, IsOfTime, IsTaking};
 ghost use Rattle.mes_double_live.specs.Steps.Step.{beats, clears};
 
 mod accepting;
@@ -210,6 +211,7 @@ impl Live {
     /// Notes in the master that the current stream was disconnected.
     fn break_stream(&mut self)
         ensures moves { Moves self.old.master self.new.master }
+        ensures broken { self.new.master ≡ stream_broke self.old.master }
         ensures rest { self.new ≡ record self.old { master = self.new.master } }
     {
         self.master.broken();
@@ -351,6 +353,7 @@ impl Live {
         ensures rest { self.new
             ≡ record self.old { master = self.new.master; cluster = self.new.cluster } }
         ensures tasks { OnOk result (self.new.cluster.tasks ≡ self.old.cluster.tasks) }
+        ensures made { IfOk result (λ made. MakesAll made.items self.old.master self.new.master) }
     {
         let mut made = Vec::new(self.alloc());
         for index in 0..self.stock_len() {
@@ -366,6 +369,8 @@ impl Live {
         ensures rest { self.new
             ≡ record self.old { master = self.new.master; cluster = self.new.cluster } }
         ensures tasks { OnOk result (self.new.cluster.tasks ≡ self.old.cluster.tasks) }
+        ensures made { OnOk result (MakesMore made.old.items self.old.master made.new.items
+            self.new.master) }
     {
         match self.next_offer(index)? {
             Some(offer) => self.make_offer(index, offer, made),
@@ -399,6 +404,8 @@ impl Live {
         ensures rest { self.new
             ≡ record self.old { master = self.new.master; cluster = self.new.cluster } }
         ensures tasks { self.new.cluster.tasks ≡ self.old.cluster.tasks }
+        ensures made { OnOk result (MakesMore made.old.items self.old.master made.new.items
+            self.new.master) }
     {
         match self.master.note_offers(slice::from_ref(&offer)) {
             Ok(()) => {

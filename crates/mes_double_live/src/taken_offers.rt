@@ -1,6 +1,11 @@
 //! The outstanding offers that a call names.
-ghost use Rattle.std.specs.Prelude.{◌≡◌, IfOk};
-ghost use Rattle.mes_double_master.specs.Masters.{named};
+ghost use Rattle.std.specs.Prelude.{◌≡◌, ◌<◌, true, false, length, slice_get, Some, IfOk};
+ghost use Rattle.std.specs.List.{list_all};
+ghost use Rattle.std.specs.Str.{bytes_eq};
+ghost use Rattle.mes_model.specs.Offer.{Offer as OfferValue};
+ghost use Rattle.mes_session_state.specs.Refusals.{has_two_agents};
+ghost use Rattle.mes_double_master.specs.Agents.{are_of};
+ghost use Rattle.mes_double_master.specs.Masters.{all_there, is_there, named};
 
 use mes_json::NoMemory;
 use mes_model::{Id, Offer};
@@ -51,16 +56,42 @@ impl<'a> TakenOffers<'a> {
     }
 
     /// Returns whether all of the offers are of this agent.
-    pub fn are_of(&self, agent: &Id) -> bool {
-        self.offers.iter().all(|offer| &offer.agent_id == agent)
+    pub fn are_of(&self, agent: &Id) -> bool
+        ensures { result ≡ false → are_of agent.now self.now ≡ false }
+    {
+        for index in 0..self.offers.len() {
+            if !self.is_of(index, agent) {
+                return false;
+            }
+        }
+        true
+    }
+
+    /// Returns whether the offer at an index is of this agent.
+    fn is_of(&self, index: usize, agent: &Id) -> bool
+        requires { index < length self.now }
+        ensures { (o : OfferValue) × (slice_get self.now index ≡ Some o)
+            × (result ≡ bytes_eq o.agent_id.value agent.now.value) }
+    {
+        &self.offers[index].agent_id == agent
     }
 
     /// Returns whether all of the offers are of one agent.
-    pub fn are_of_one_agent(&self) -> bool {
-        match self.offers.first() {
-            Some(first) => self.are_of(&first.agent_id),
-            None => true,
+    pub fn are_of_one_agent(&self) -> bool
+        ensures { result ≡ false → has_two_agents self.now ≡ true }
+    {
+        if self.offers.is_empty() {
+            return true;
         }
+        self.are_of(self.first_agent())
+    }
+
+    /// Returns the agent of the first offer.
+    fn first_agent(&self) -> &Id
+        requires { 0 < length self.now }
+        ensures { (o : OfferValue) × (slice_get self.now 0 ≡ Some o) × (result.now ≡ o.agent_id) }
+    {
+        &self.offers[0].agent_id
     }
 }
 
@@ -77,9 +108,23 @@ impl<'a> OfferList for TakenOffers<'a> {
 }
 
 /// Returns whether at least one offer is named, and all named offers are outstanding.
-pub(crate) fn all_there(outstanding: &OutstandingOffers, ids: &[Id]) -> bool {
-    !ids.is_empty()
-        && ids
-            .iter()
-            .all(|id| outstanding.get(id.value.as_str()).is_some())
+pub(crate) fn all_there(outstanding: &OutstandingOffers, ids: &[Id]) -> bool
+    ensures { result ≡ all_there outstanding.now ids.now }
+{
+    if ids.is_empty() {
+        return false;
+    }
+    are_there(outstanding, ids)
+}
+
+fn are_there(outstanding: &OutstandingOffers, ids: &[Id]) -> bool
+    ensures { result ≡ list_all (is_there outstanding.now) ids.now }
+{
+    ids.iter().all(|id| is_there(outstanding, id))
+}
+
+fn is_there(outstanding: &OutstandingOffers, id: &Id) -> bool
+    ensures { result ≡ is_there outstanding.now id.now }
+{
+    outstanding.get(id.value.as_str()).is_some()
 }

@@ -36,7 +36,7 @@ pub fn live_laws()
 
 /// Proves what the bytes of a stream of a [`Live`](crate::Live) are. Each method of `Live` that
 /// succeeds ensures that the body of the stream changes only by steps that the method is allowed
-/// (`StepsTo`, `StepsWith`, `BeginsWith`).
+/// (`StepsTo`, `BeginsWith`).
 ///
 /// - Methods that are called one after another change the body as one does.
 /// - If the run plans no fault of an event, and no event demands one, the bytes written and pending

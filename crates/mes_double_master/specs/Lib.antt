@@ -1,3 +1,4 @@
+pub mod Agents
 pub mod Masters
 pub mod Memory
 pub mod Names

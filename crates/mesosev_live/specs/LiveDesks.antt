@@ -15,10 +15,10 @@ use Rattle.mes_double_live.specs.Bodies.{empty}
 use Rattle.mes_frame.specs.declared.limits.TheConstants.{MIN_CHUNK, MAX_CHUNK}
 use Rattle.mes_double_faults.specs.Plans.{Plan}
 use Rattle.mes_double_live.specs.Arriving.{arriving}
-use Rattle.mes_double_live.specs.Lives.{LiveState, OpensBy, new_live, call_counted, call_status, reply_fault}
+use Rattle.mes_double_live.specs.Calling.{opened_by, responding}
+use Rattle.mes_double_live.specs.Lives.{LiveState, new_live, call_counted, call_status, reply_fault}
 use Rattle.mes_double_live.specs.Moving.{Moves, IsSafe}
-use Rattle.mes_double_live.specs.Opening.{OpensIf}
-use Rattle.mes_double_live.specs.Steps.{BeginsWith, StepsWith, IsDelivering, IsOfCall, demanded}
+use Rattle.mes_double_live.specs.Steps.{BeginsWith, IsDelivering, IsOfCall}
 use Rattle.mes_double_live.specs.declared.reply.Reply.{Reply}
 use Rattle.mesosev_net.specs.Given.{test_framework}
 use Rattle.mesosev_net.specs.StreamIds.{ids_from}
@@ -49,21 +49,20 @@ TakesEvent old body new status =
     ⊎ (IsNoEvent body × (new ≡ old) × (status ≡ 400))
 
 -- The response to a call has the status of the test master's response, or that of the call's fault,
--- which says what happens to the connection. The steps are those of the call, and a stream that is
--- opened begins as it must.
+-- which says what happens to the connection. Once the call was counted, the steps are first those that
+-- it and its fault demand. A response with status 200 opens the stream of the test master.
 pub record RespondsToCall (old : LiveState) (c : Call) (stream : Option (List ℕ)) (new : LiveState) (reply : Reply) : Type 0 where
   pub status : reply.status ≡ call_status old c stream
   pub fault : reply.fault ≡ reply_fault old
-  pub steps : StepsWith (IsOfCall c) (demanded c reply.status) old new
-  pub opens : OpensIf reply.opened (handled old.master c stream).master (call_counted old) new
+  pub steps : BeginsWith (IsOfCall c) (responding (reply_fault old) (call_counted old) c stream) (call_counted old) new
+  pub opened : reply.opened ≡ opened_by reply.status (handled old.master c stream).master
 
 -- The response to a request is that to the call in its body; or the body is no call, the status is
--- 400, and nothing is changed. Only a response with status 200 opens a stream.
+-- 400, no stream is opened, and nothing is changed.
 abbrev pub RespondsTo : LiveState → Request → LiveState → Reply → Type 0
 RespondsTo old request new reply =
-    (((c : Call) × IsTextOf call request.body.items c × RespondsToCall old c request.stream new reply)
-    ⊎ (IsNoCall request.body.items × (reply.status ≡ 400) × (reply.fault ≡ None) × (new ≡ old)))
-    × OpensBy reply.opened reply.status
+    ((c : Call) × IsTextOf call request.body.items c × RespondsToCall old c request.stream new reply)
+    ⊎ (IsNoCall request.body.items × (reply.status ≡ 400) × (reply.fault ≡ None) × (reply.opened ≡ None) × (new ≡ old))
 
 -- the ids of the streams of one run
 abbrev pub run_ids : List (List ℕ)

@@ -1,12 +1,18 @@
 //! How a live test master handles ACCEPT: the master launches only tasks that fit the offers.
-ghost use Rattle.std.specs.Prelude.{◌≡◌, ◌<◌, None as none, option_copied, IfOk, OnOk, length, take};
+ghost use Rattle.std.specs.Prelude.{◌≡◌, ◌⊎◌, ◌<◌, ◌||◌, [], ◌∷◌, true, false, None as none, option_copied, IfNone, IfOk, IfSome, OnOk, length, take};
+ghost use Rattle.std.specs.Str.{bytes_eq};
 ghost use Rattle.mes_msg.specs.Call.TheVariants as of;
 ghost use Rattle.mes_session_fit.specs.Fits.{Fits};
 ghost use Rattle.mes_session_state.specs.Calls.{accept_call};
-ghost use Rattle.mes_double_master.specs.Masters.{named, handled};
-ghost use Rattle.mes_double_live.specs.Lives.{OpensBy};
+ghost use Rattle.mes_session_fit.specs.Launched.{launched, launched_by};
+ghost use Rattle.mes_session_state.specs.Refusals.{is_among};
+ghost use Rattle.mes_double_master_state.specs.Ids.{new_tasks};
+ghost use Rattle.mes_double_master.specs.Agents.{are_of};
+ghost use Rattle.mes_double_master.specs.Masters.{handled};
+ghost use Rattle.mes_double_live.specs.Calling.{carrying, opened_by};
+ghost use Rattle.mes_double_live.specs.Launching.{is_kept, AddsAll, IsAll, IsPlan};
 ghost use Rattle.mes_double_live.specs.Moving.{Moves};
-ghost use Rattle.mes_double_live.specs.Steps.{StepsTo, IsLaunching, IsReplying};
+ghost use Rattle.mes_double_live.specs.Steps.{BeginsWith, Handles, StepsTo, IsLaunching, IsOfCall, IsReplying};
 
 use super::Live;
 use crate::fault::LiveFault;
@@ -47,38 +53,44 @@ impl Live {
         body: &Accept,
     ) -> Result<Reply, LiveFault>
         ensures moves { Moves self.old.master self.new.master }
-        ensures steps { OnOk result (StepsTo IsLaunching self.old self.new) }
+        ensures steps { OnOk result (BeginsWith (IsOfCall (of.Accept framework.now body.now))
+            (carrying self.old (of.Accept framework.now body.now) (option_copied stream.entry))
+            self.old self.new) }
         ensures status { IfOk result (λ reply. reply.status
             ≡ (handled self.old.master (of.Accept framework.now body.now)
             (option_copied stream.entry)).status) }
-        ensures opened { IfOk result (λ reply. OpensBy reply.opened reply.status) }
-        ensures plain { IfOk result (λ reply. reply.opened ≡ none) }
+        ensures opened { IfOk result (λ reply. reply.opened ≡ opened_by reply.status
+            (handled self.old.master (of.Accept framework.now body.now)
+            (option_copied stream.entry)).master) }
     {
         let plan = launch_plan(self.alloc, &self.master, body)?;
-        let ids = body.offer_ids.as_slice();
-        let status = self.launch(stream, framework, ids, plan.kept.as_slice())?;
-        if status == StatusCode::ACCEPTED {
-            self.note_launch(body, &plan)?;
+        let status = self.launch(stream, framework, body, plan.kept.as_slice())?;
+        if status != StatusCode::ACCEPTED {
+            return Ok(Reply::plain(status));
         }
+        self.note_launch(body, &plan)?;
         Ok(Reply::plain(status))
     }
 
-    /// Gives the master the ACCEPT of these offers and tasks, and returns the status of its
-    /// response.
+    /// Gives the master the ACCEPT with only these tasks, and returns the status of its response.
     fn launch(
         &mut self,
         stream: Option<&StreamId>,
         framework: &Id,
-        ids: &[Id],
+        body: &Accept,
         tasks: &[TaskInfo],
     ) -> Result<StatusCode, NoMemory>
-        requires { Fits (named ids.now self.old.master.outstanding) tasks.now }
+        requires { IsPlan self.old.master body.now tasks.now }
         ensures moves { Moves self.old.master self.new.master }
         ensures rest { self.new ≡ record self.old { master = self.new.master } }
+        ensures handles { OnOk result (Handles (of.Accept framework.now body.now)
+            (option_copied stream.entry) self.old.master self.new.master) }
         ensures status { IfOk result (λ status. status
-            ≡ (handled self.old.master (accept_call framework.now ids.now tasks.now none)
+            ≡ (handled self.old.master
+            (accept_call framework.now body.now.offer_ids tasks.now none)
             (option_copied stream.entry)).status) }
     {
+        let ids = body.offer_ids.as_slice();
         let call = make_accept(self.alloc, framework, ids, tasks, None)?;
         let answer = self.master.handle(&call, stream)?;
         Ok(answer.status)
@@ -108,9 +120,7 @@ impl Live {
 
 /// Returns the plan for an ACCEPT.
 fn launch_plan(alloc: Global, master: &Master, body: &Accept) -> Result<LaunchPlan, NoMemory>
-    // What is launched fits the offers that the call takes.
-    ensures { IfOk result (λ plan. Fits (named body.now.offer_ids master.now.outstanding)
-        plan.kept.items) }
+    ensures { IfOk result (λ plan. IsPlan master.now body.now plan.kept.items) }
 {
     let outstanding = master.outstanding();
     let ids = body.offer_ids.as_slice();
@@ -124,15 +134,31 @@ fn launch_plan(alloc: Global, master: &Master, body: &Accept) -> Result<LaunchPl
         return Ok(plan);
     }
     let offers = TakenOffers::of(alloc, outstanding, ids)?;
-    if offers.are_of_one_agent() {
-        plan_on(alloc, master, &offers, operations, &mut plan)?;
-    } else {
-        lose_all(alloc, operations, TWO_AGENTS, &mut plan.refused)?;
-    }
+    plan_for(alloc, master, &offers, operations, &mut plan)?;
     Ok(plan)
 }
 
-/// Adds the tasks of an ACCEPT of these offers to an empty plan.
+/// Adds the tasks of an ACCEPT of these offers to an empty plan, if the offers are of one agent.
+fn plan_for(
+    alloc: Global,
+    master: &Master,
+    offers: &TakenOffers<'_>,
+    operations: &[Operation],
+    plan: &mut LaunchPlan,
+) -> Result<(), NoMemory>
+    requires { plan.old.kept.items ≡ [] }
+    ensures fits { OnOk result (Fits offers.now plan.new.kept.items) }
+    ensures whole { OnOk result (IsAll (new_tasks master.now.launched
+        (launched launched_by operations.now)) offers.now plan.new.kept.items) }
+{
+    if offers.are_of_one_agent() {
+        plan_on(alloc, master, offers, operations, plan)
+    } else {
+        lose_all(alloc, operations, TWO_AGENTS, &mut plan.refused)
+    }
+}
+
+/// Adds the tasks of an ACCEPT of these offers, which are of one agent, to an empty plan.
 fn plan_on(
     alloc: Global,
     master: &Master,
@@ -140,7 +166,10 @@ fn plan_on(
     operations: &[Operation],
     plan: &mut LaunchPlan,
 ) -> Result<(), NoMemory>
-    ensures { OnOk result (Fits offers.now plan.new.kept.items) }
+    requires { plan.old.kept.items ≡ [] }
+    ensures fits { OnOk result (Fits offers.now plan.new.kept.items) }
+    ensures whole { OnOk result (IsAll (new_tasks master.now.launched
+        (launched launched_by operations.now)) offers.now plan.new.kept.items) }
 {
     plan_all(alloc, master, offers, operations, plan)?;
     if unfitting_resource(offers, plan.kept.as_slice()).is_none() {
@@ -182,7 +211,10 @@ fn plan_all(
     offers: &TakenOffers<'_>,
     operations: &[Operation],
     plan: &mut LaunchPlan,
-) -> Result<(), NoMemory> {
+) -> Result<(), NoMemory>
+    ensures { OnOk result (AddsAll master.now.launched (launched launched_by operations.now)
+        offers.now plan.old.kept.items plan.new.kept.items) }
+{
     for operation in operations {
         let Operation::Launch { task_infos } = operation;
         plan_group(alloc, master, offers, task_infos.as_slice(), plan)?;
@@ -196,12 +228,30 @@ fn plan_group(
     offers: &TakenOffers<'_>,
     tasks: &[TaskInfo],
     plan: &mut LaunchPlan,
-) -> Result<(), NoMemory> {
+) -> Result<(), NoMemory>
+    ensures { OnOk result (AddsAll master.now.launched tasks.now offers.now plan.old.kept.items
+        plan.new.kept.items) }
+{
     for task in tasks {
-        match refusal_of(alloc, master, offers, plan.kept.as_slice(), task)? {
-            Some(message) => plan.refused.push(task_error(alloc, task, message)?)?,
-            None => plan.kept.push(task.copy(alloc)?)?,
-        }
+        plan_task(alloc, master, offers, task, plan)?;
+    }
+    Ok(())
+}
+
+/// Adds the task to the plan, as one that is launched or as one that is refused.
+fn plan_task(
+    alloc: Global,
+    master: &Master,
+    offers: &TakenOffers<'_>,
+    task: &TaskInfo,
+    plan: &mut LaunchPlan,
+) -> Result<(), NoMemory>
+    ensures { OnOk result (AddsAll master.now.launched (task.now ∷ []) offers.now
+        plan.old.kept.items plan.new.kept.items) }
+{
+    match refusal_of(alloc, master, offers, plan.kept.as_slice(), task)? {
+        Some(message) => plan.refused.push(task_error(alloc, task, message)?)?,
+        None => plan.kept.push(task.copy(alloc)?)?,
     }
     Ok(())
 }
@@ -214,8 +264,15 @@ fn refusal_of(
     offers: &TakenOffers<'_>,
     kept: &[TaskInfo],
     task: &TaskInfo,
-) -> Result<Option<Text>, NoMemory> {
-    if master.has_launched(&task.task_id) || is_among(kept, &task.task_id) {
+) -> Result<Option<Text>, NoMemory>
+    ensures refused { IfOk result (λ refusal. IfSome refusal (λ text.
+        ((is_among task.now.task_id master.now.launched || is_kept task.now.task_id kept.now) ≡ true)
+        ⊎ (are_of task.now.agent_id offers.now ≡ false))) }
+    ensures new { IfOk result (λ refusal. IfNone refusal
+        ((is_among task.now.task_id master.now.launched || is_kept task.now.task_id kept.now)
+        ≡ false)) }
+{
+    if master.has_launched(&task.task_id) || is_kept(kept, &task.task_id) {
         let text = message(
             alloc,
             "Task has a duplicate id: ",
@@ -234,8 +291,16 @@ fn refusal_of(
     Ok(None)
 }
 
-fn is_among(tasks: &[TaskInfo], id: &Id) -> bool {
-    tasks.iter().any(|task| &task.task_id == id)
+fn is_kept(tasks: &[TaskInfo], id: &Id) -> bool
+    ensures { result ≡ is_kept id.now tasks.now }
+{
+    tasks.iter().any(|task| is_task(task, id))
+}
+
+fn is_task(task: &TaskInfo, id: &Id) -> bool
+    ensures { result ≡ bytes_eq id.now.value task.now.task_id.value }
+{
+    id == &task.task_id
 }
 
 /// How far the tasks of a plan are known to fit.

@@ -1,13 +1,14 @@
 //! How a live test master handles calls.
-ghost use Rattle.std.specs.Prelude.{◌≡◌, [], ◌∷◌, ◌++◌, true, is_some, None as none, option_copied, IfOk, OnOk};
+ghost use Rattle.std.specs.Prelude.{◌≡◌, [], ◌∷◌, ◌++◌, true, false, is_some, None as none, option_copied, IfOk, OnOk};
 ghost use Rattle.std.specs.List.{AllByRecursion};
 ghost use Rattle.mes_session_state.specs.Calls.{tasks_of};
 ghost use Rattle.mes_double_master.specs.Masters.{handled, is_subscribe, IsAnswer};
-ghost use Rattle.mes_double_live.specs.Lives.{OpensBy, call_counted, call_status, planned_fault, reply_fault, resets, status_by};
+ghost use Rattle.mes_double_live.specs.Calling.{carrying, demanded_by, opened_by, removing, responding, sender};
+ghost use Rattle.mes_double_live.specs.Lives.{call_counted, call_status, planned_fault, reply_fault, resets, status_by};
 ghost use Rattle.mes_double_live.specs.Logs.{call_answered, IsLogged};
 ghost use Rattle.mes_double_live.specs.Moving.{Moves};
-ghost use Rattle.mes_double_live.specs.Opening.{ChangesBy, OpensIf, beginning, opening, replacing, sending, unacknowledged};
-ghost use Rattle.mes_double_live.specs.Steps.{BeginsWith, StepsTo, StepsWith, NeedsNone, IsDelivering, IsNoting, IsOfCall, demanded, demanded_by};
+ghost use Rattle.mes_double_live.specs.Opening.{ChangesBy, beginning, replacing, sending, unacknowledged};
+ghost use Rattle.mes_double_live.specs.Steps.{BeginsWith, Handles, StepsTo, IsDelivering, IsNoOffers, IsNoting, IsOfCall};
 ghost use Rattle.mes_double_live.specs.Steps.Step.{clears};
 
 use super::{Live, MAX_AHEAD};
@@ -38,19 +39,18 @@ impl Live {
     pub fn call(&mut self, stream: Option<&StreamId>, call: &Call) -> Result<Reply, LiveFault>
         // The test master changes only by its own deeds, and what these launch fits.
         ensures moves { Moves self.old.master self.new.master }
-        ensures steps { IfOk result (λ reply. StepsWith (IsOfCall call.now)
-            (demanded call.now reply.status) self.old self.new) }
+        // Once the call was counted, the steps are first those that it and its fault demand. On a new
+        // stream, these send SUBSCRIBED, a HEARTBEAT, and then the unacknowledged updates.
+        ensures steps { OnOk result (BeginsWith (IsOfCall call.now)
+            (responding (reply_fault self.old) (call_counted self.old) call.now
+            (option_copied stream.entry)) (call_counted self.old) self.new) }
         ensures status { IfOk result (λ reply. reply.status
             ≡ call_status self.old call.now (option_copied stream.entry)) }
         // What happens to the connection of the call.
         ensures fault { IfOk result (λ reply. reply.fault ≡ reply_fault self.old) }
-        // Only a response with status 200 opens a stream.
-        ensures opened { IfOk result (λ reply. OpensBy reply.opened reply.status) }
-        // A new stream is that of the test master. On it, SUBSCRIBED and a HEARTBEAT are sent first,
-        // and then the unacknowledged updates.
-        ensures opens { IfOk result (λ reply. OpensIf reply.opened
-            (handled self.old.master call.now (option_copied stream.entry)).master
-            (call_counted self.old) self.new) }
+        // A response with status 200 opens the stream of the test master, and no other opens one.
+        ensures opened { IfOk result (λ reply. reply.opened ≡ opened_by reply.status
+            (handled self.old.master call.now (option_copied stream.entry)).master) }
         // The response is the last entry of the log.
         ensures logged { IfOk result (λ reply.
             IsLogged (call_answered call.now reply.status) self.new.log) }
@@ -67,15 +67,14 @@ impl Live {
         call: &Call,
     ) -> Result<Reply, LiveFault>
         ensures moves { Moves self.old.master self.new.master }
-        ensures steps { IfOk result (λ reply. StepsWith (IsOfCall call.now)
-            (demanded call.now reply.status) self.old self.new) }
+        ensures steps { OnOk result (BeginsWith (IsOfCall call.now)
+            (responding (reply_fault self.old) (call_counted self.old) call.now
+            (option_copied stream.entry)) (call_counted self.old) self.new) }
         ensures status { IfOk result (λ reply. reply.status
             ≡ call_status self.old call.now (option_copied stream.entry)) }
         ensures fault { IfOk result (λ reply. reply.fault ≡ reply_fault self.old) }
-        ensures opened { IfOk result (λ reply. OpensBy reply.opened reply.status) }
-        ensures opens { IfOk result (λ reply. OpensIf reply.opened
-            (handled self.old.master call.now (option_copied stream.entry)).master
-            (call_counted self.old) self.new) }
+        ensures opened { IfOk result (λ reply. reply.opened ≡ opened_by reply.status
+            (handled self.old.master call.now (option_copied stream.entry)).master) }
     {
         let fault = self.next_fault()?;
         let reply = self.respond_by(fault, stream, call)?;
@@ -90,14 +89,12 @@ impl Live {
         call: &Call,
     ) -> Result<Reply, LiveFault>
         ensures moves { Moves self.old.master self.new.master }
-        ensures steps { IfOk result (λ reply. StepsWith (IsOfCall call.now)
-            (demanded call.now reply.status) self.old self.new) }
+        ensures steps { OnOk result (BeginsWith (IsOfCall call.now)
+            (responding fault self.old call.now (option_copied stream.entry)) self.old self.new) }
         ensures status { IfOk result (λ reply. reply.status ≡ status_by fault
             (handled self.old.master call.now (option_copied stream.entry)).status) }
-        ensures opened { IfOk result (λ reply. OpensBy reply.opened reply.status) }
-        ensures opens { IfOk result (λ reply. OpensIf reply.opened
-            (handled self.old.master call.now (option_copied stream.entry)).master
-            self.old self.new) }
+        ensures opened { IfOk result (λ reply. reply.opened ≡ opened_by reply.status
+            (handled self.old.master call.now (option_copied stream.entry)).master) }
     {
         match fault {
             Some(CallFault::Busy | CallFault::Reset) => {
@@ -155,8 +152,8 @@ impl Live {
     /// 403.
     fn remove(&mut self, stream: Option<&StreamId>, call: &Call) -> Result<Reply, LiveFault>
         ensures moves { Moves self.old.master self.new.master }
-        ensures steps { IfOk result (λ reply. StepsWith (IsOfCall call.now)
-            (demanded call.now reply.status) self.old self.new) }
+        ensures steps { OnOk result (BeginsWith (IsOfCall call.now)
+            (removing self.old call.now (option_copied stream.entry)) self.old self.new) }
         ensures status { IfOk result (λ reply. reply.status ≡ 403) }
         ensures opened { IfOk result (λ reply. reply.opened ≡ none) }
     {
@@ -177,9 +174,10 @@ impl Live {
         call: &Call,
     ) -> Result<Option<EndedStream>, LiveFault>
         ensures moves { Moves self.old.master self.new.master }
-        ensures steps { OnOk result (StepsTo (IsOfCall call.now) self.old self.new) }
+        ensures steps { OnOk result (BeginsWith (IsOfCall call.now)
+            (removing self.old call.now (option_copied stream.entry)) self.old self.new) }
     {
-        let Some(framework) = framework_of(call) else {
+        let Some(framework) = sender(call) else {
             return Ok(None);
         };
         let framework_id = framework.copy(self.alloc)?;
@@ -191,14 +189,12 @@ impl Live {
     /// Handles a call, and sends what is due after it.
     fn respond(&mut self, stream: Option<&StreamId>, call: &Call) -> Result<Reply, LiveFault>
         ensures moves { Moves self.old.master self.new.master }
-        ensures steps { IfOk result (λ reply. StepsWith (IsOfCall call.now)
-            (demanded call.now reply.status) self.old self.new) }
+        ensures steps { OnOk result (BeginsWith (IsOfCall call.now)
+            (carrying self.old call.now (option_copied stream.entry)) self.old self.new) }
         ensures status { IfOk result (λ reply. reply.status
             ≡ (handled self.old.master call.now (option_copied stream.entry)).status) }
-        ensures opened { IfOk result (λ reply. OpensBy reply.opened reply.status) }
-        ensures opens { IfOk result (λ reply. OpensIf reply.opened
-            (handled self.old.master call.now (option_copied stream.entry)).master
-            self.old self.new) }
+        ensures opened { IfOk result (λ reply. reply.opened ≡ opened_by reply.status
+            (handled self.old.master call.now (option_copied stream.entry)).master) }
     {
         let reply = self.reply_to(stream, call)?;
         self.send_due()?;
@@ -207,14 +203,12 @@ impl Live {
 
     fn reply_to(&mut self, stream: Option<&StreamId>, call: &Call) -> Result<Reply, LiveFault>
         ensures moves { Moves self.old.master self.new.master }
-        ensures steps { IfOk result (λ reply. StepsWith (IsOfCall call.now)
-            (demanded call.now reply.status) self.old self.new) }
+        ensures steps { OnOk result (BeginsWith (IsOfCall call.now)
+            (carrying self.old call.now (option_copied stream.entry)) self.old self.new) }
         ensures status { IfOk result (λ reply. reply.status
             ≡ (handled self.old.master call.now (option_copied stream.entry)).status) }
-        ensures opened { IfOk result (λ reply. OpensBy reply.opened reply.status) }
-        ensures opens { IfOk result (λ reply. OpensIf reply.opened
-            (handled self.old.master call.now (option_copied stream.entry)).master
-            self.old self.new) }
+        ensures opened { IfOk result (λ reply. reply.opened ≡ opened_by reply.status
+            (handled self.old.master call.now (option_copied stream.entry)).master) }
     {
         match call {
             Call::Subscribe { .. } => self.subscribe(stream, call),
@@ -228,6 +222,8 @@ impl Live {
         requires { tasks_of call.now ≡ [] }
         ensures moves { Moves self.old.master self.new.master }
         ensures rest { self.new ≡ record self.old { master = self.new.master } }
+        ensures handles { OnOk result (Handles call.now (option_copied stream.entry)
+            self.old.master self.new.master) }
         ensures status { IfOk result (λ answer. answer.status
             ≡ (handled self.old.master call.now (option_copied stream.entry)).status) }
         ensures answered { IfOk result (λ answer. IsAnswer
@@ -241,14 +237,12 @@ impl Live {
         requires none { tasks_of call.now ≡ [] }
         requires subscribe { is_subscribe call.now ≡ true }
         ensures moves { Moves self.old.master self.new.master }
-        ensures steps { IfOk result (λ reply. StepsWith (IsOfCall call.now)
-            (demanded call.now reply.status) self.old self.new) }
+        ensures steps { OnOk result (BeginsWith (IsOfCall call.now)
+            (carrying self.old call.now (option_copied stream.entry)) self.old self.new) }
         ensures status { IfOk result (λ reply. reply.status
             ≡ (handled self.old.master call.now (option_copied stream.entry)).status) }
-        ensures opened { IfOk result (λ reply. OpensBy reply.opened reply.status) }
-        ensures opens { IfOk result (λ reply. OpensIf reply.opened
-            (handled self.old.master call.now (option_copied stream.entry)).master
-            self.old self.new) }
+        ensures opened { IfOk result (λ reply. reply.opened ≡ opened_by reply.status
+            (handled self.old.master call.now (option_copied stream.entry)).master) }
     {
         let old = self.current();
         let answer = self.handle(stream, call)?;
@@ -271,7 +265,8 @@ impl Live {
         old: Option<StreamId>,
         events: &[Event],
     ) -> Result<Option<EndedStream>, LiveFault>
-        requires { is_some self.old.master.stream ≡ true }
+        requires stream { is_some self.old.master.stream ≡ true }
+        requires events { AllByRecursion IsNoOffers events.now }
         ensures moves { Moves self.old.master self.new.master }
         ensures begins { OnOk result (BeginsWith IsDelivering (replacing self.old.time old
             ++ beginning self.old.time events.now (unacknowledged self.old.master)) self.old
@@ -310,6 +305,7 @@ impl Live {
 
     /// Sends events of the master.
     fn send_all(&mut self, sent: &[Event]) -> Result<(), LiveFault>
+        requires { AllByRecursion IsNoOffers sent.now }
         ensures same { self.new.master ≡ self.old.master }
         ensures sends { OnOk result (ChangesBy (sending self.old.time sent.now) self.old self.new) }
     {
@@ -321,14 +317,15 @@ impl Live {
 
     /// Handles a call other than SUBSCRIBE and ACCEPT.
     fn carry_out(&mut self, stream: Option<&StreamId>, call: &Call) -> Result<Reply, LiveFault>
-        requires { tasks_of call.now ≡ [] }
+        requires none { tasks_of call.now ≡ [] }
+        requires other { is_subscribe call.now ≡ false }
         ensures moves { Moves self.old.master self.new.master }
-        ensures steps { IfOk result (λ reply. StepsWith (IsOfCall call.now)
-            (demanded call.now reply.status) self.old self.new) }
+        ensures steps { OnOk result (BeginsWith (IsOfCall call.now)
+            (carrying self.old call.now (option_copied stream.entry)) self.old self.new) }
         ensures status { IfOk result (λ reply. reply.status
             ≡ (handled self.old.master call.now (option_copied stream.entry)).status) }
-        ensures opened { IfOk result (λ reply. OpensBy reply.opened reply.status) }
-        ensures plain { IfOk result (λ reply. reply.opened ≡ none) }
+        ensures opened { IfOk result (λ reply. reply.opened ≡ opened_by reply.status
+            (handled self.old.master call.now (option_copied stream.entry)).master) }
     {
         let old = self.current();
         let answer = self.handle(stream, call)?;
@@ -344,23 +341,23 @@ impl Live {
         })
     }
 
-    /// Sends what follows a call that the master carried out, and returns the stream that the call
-    /// ended.
+    /// Sends the events of a call that the master carried out, and what follows them. Returns the
+    /// stream that the call ended.
     fn conclude(
         &mut self,
         call: &Call,
         old: Option<StreamId>,
         events: &[Event],
     ) -> Result<Option<EndedStream>, LiveFault>
-        requires { AllByRecursion NeedsNone events.now }
+        requires { AllByRecursion IsNoOffers events.now }
         ensures same { self.new.master ≡ self.old.master }
-        ensures steps { OnOk result (StepsWith (IsOfCall call.now) (demanded_by call.now)
-            self.old self.new) }
+        ensures steps { OnOk result (BeginsWith (IsOfCall call.now)
+            (sending self.old.time events.now ++ demanded_by call.now) self.old self.new) }
     {
+        self.send_all(events)?;
         match (call, old) {
             (Call::Teardown { .. }, Some(id)) => Ok(Some(self.end_stream(id)?)),
             _ => {
-                self.send_all(events)?;
                 self.follow(call)?;
                 Ok(None)
             }
@@ -369,7 +366,9 @@ impl Live {
 }
 
 /// Returns the framework that sends a call other than SUBSCRIBE.
-fn framework_of(call: &Call) -> Option<&Id> {
+fn sender(call: &Call) -> Option<&Id>
+    ensures { option_copied result ≡ sender call.now }
+{
     match call {
         Call::Subscribe { .. } => None,
         Call::Accept { framework_id, .. }

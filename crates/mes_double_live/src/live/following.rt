@@ -1,7 +1,8 @@
 //! What a live test master does after a call that the test master carried out.
 ghost use Rattle.std.specs.Prelude.{◌≡◌, [], ◌∷◌, OnOk};
+ghost use Rattle.mes_double_live.specs.Calling.{demanded_by};
 ghost use Rattle.mes_double_live.specs.Opening.{ChangesBy};
-ghost use Rattle.mes_double_live.specs.Steps.{BeginsWith, StepsTo, IsReplying, demanded_by};
+ghost use Rattle.mes_double_live.specs.Steps.{BeginsWith, StepsTo, IsReplying};
 ghost use Rattle.mes_double_live.specs.Steps.Step.{acknowledges, kills};
 
 use super::Live;

@@ -6,7 +6,7 @@ ghost use Rattle.mes_double_master.specs.Masters.{update_event};
 ghost use Rattle.mes_double_live.specs.Lives.{update_sent};
 ghost use Rattle.mes_double_live.specs.Moving.{Moves};
 ghost use Rattle.mes_double_live.specs.Opening.{ChangesBy, Resends, resending, unacknowledged};
-ghost use Rattle.mes_double_live.specs.Steps.{StepsTo, IsResending, IsSending};
+ghost use Rattle.mes_double_live.specs.Steps.{StepsBut, StepsTo, IsResending, IsSending, reporting};
 
 use super::Live;
 use crate::fault::LiveFault;
@@ -129,7 +129,7 @@ impl Live {
         requires due { status_at index self.old.time self.old.cluster ≡ Some status.now }
         requires update { event.now ≡ update_event status.now }
         ensures same { self.new.master ≡ self.old.master }
-        ensures steps { OnOk result (StepsTo IsSending self.old self.new) }
+        ensures sent { OnOk result (StepsBut (reporting index status.now self.old) self.old self.new) }
     {
         self.cluster.reported(index, status.state, self.time);
         self.note_sent(status)?;

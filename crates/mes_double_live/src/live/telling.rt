@@ -1,9 +1,10 @@
 //! How a live test master takes events from outside.
 ghost use Rattle.std.specs.Prelude.{◌≡◌, [], ◌∷◌, true, false, is_some, IfOk, OnOk};
-ghost use Rattle.mes_double_live.specs.Arriving.{WaitsAlone, arriving, is_busy, waits_first};
+ghost use Rattle.mes_msg.specs.Event.TheVariants as event;
+ghost use Rattle.mes_double_live.specs.Arriving.{AdmitsIf, Delivers, Obeyed, WaitsAlone, arriving, is_busy, waits_first};
 ghost use Rattle.mes_double_live.specs.Lives.{one_more_busy, with_first, with_last, with_stock, with_taken};
 ghost use Rattle.mes_double_live.specs.Moving.{Moves};
-ghost use Rattle.mes_double_live.specs.Steps.{BeginsWith, StepsTo, IsDelivering, IsForgetting, IsRescindOrUpdate};
+ghost use Rattle.mes_double_live.specs.Steps.{Admits, BeginsWith, Refuses, StepsTo, IsDelivering, overtaken_by};
 ghost use Rattle.mes_double_live.specs.Steps.Step.{waits};
 
 use super::Live;
@@ -154,8 +155,7 @@ impl Live {
     /// Makes an event from outside known to the master. Returns false if the master refuses it.
     fn admit(&mut self, event: &Event) -> Result<bool, NoMemory>
         ensures moves { Moves self.old.master self.new.master }
-        ensures steps { OnOk result (StepsTo IsForgetting self.old self.new) }
-        ensures refuses { IfOk result (λ admits. admits ≡ false → IsRescindOrUpdate event.now) }
+        ensures admits { IfOk result (λ admits. AdmitsIf admits event.now self.old self.new) }
     {
         match event {
             Event::Rescind(body) => self.note_rescind(&body.offer_id),
@@ -167,7 +167,7 @@ impl Live {
     /// Sends an event, or does what its name demands of the stream.
     fn send(&mut self, event: &Event) -> Result<(), LiveFault>
         ensures same { self.new.master ≡ self.old.master }
-        ensures steps { OnOk result (StepsTo IsDelivering (with_first event.now self.old) self.new) }
+        ensures delivers { OnOk result (Delivers event.now self.old self.new) }
     {
         if self.obeys(event) {
             return Ok(());
@@ -178,7 +178,7 @@ impl Live {
     /// Does what the name of an event demands of the stream. Returns false if it demands nothing.
     fn obeys(&mut self, event: &Event) -> bool
         ensures same { self.new.master ≡ self.old.master }
-        ensures steps { result ≡ true → StepsTo IsDelivering (with_first event.now self.old) self.new }
+        ensures obeyed { result ≡ true → Obeyed event.now self.old self.new }
         ensures ignored { result ≡ false → self.new ≡ self.old }
     {
         match event {
@@ -190,9 +190,8 @@ impl Live {
     /// Takes an offer back. Returns false if the master refuses.
     fn note_rescind(&mut self, id: &Id) -> Result<bool, NoMemory>
         ensures moves { Moves self.old.master self.new.master }
-        ensures rest { self.new
-            ≡ record self.old { master = self.new.master; cluster = self.new.cluster } }
-        ensures tasks { self.new.cluster.tasks ≡ self.old.cluster.tasks }
+        ensures admits { IfOk result (λ admits. AdmitsIf admits
+            (event.Rescind (record { offer_id = id.now })) self.old self.new) }
     {
         match self.master.rescind(id.value.as_str()) {
             Ok(_) => {
@@ -207,7 +206,8 @@ impl Live {
     /// Records a status from outside. Returns false if the master refuses it.
     fn note_update(&mut self, status: &TaskStatus) -> Result<bool, NoMemory>
         ensures moves { Moves self.old.master self.new.master }
-        ensures steps { OnOk result (StepsTo IsForgetting self.old self.new) }
+        ensures admits { IfOk result (λ admits. AdmitsIf admits
+            (event.Update (record { status = status.now })) self.old self.new) }
     {
         if !self.record(status)? {
             return Ok(false);
@@ -220,6 +220,12 @@ impl Live {
     fn record(&mut self, status: &TaskStatus) -> Result<bool, NoMemory>
         ensures moves { Moves self.old.master self.new.master }
         ensures rest { self.new ≡ record self.old { master = self.new.master } }
+        ensures records { IfOk result (λ records. records ≡ true
+            → Admits (event.Update (record { status = status.now })) self.old.master
+            self.new.master) }
+        ensures refuses { IfOk result (λ records. records ≡ false
+            → Refuses (event.Update (record { status = status.now })) self.old.master
+            × (self.new ≡ self.old)) }
     {
         match self.master.note_update(status) {
             Ok(()) => Ok(true),
@@ -231,7 +237,10 @@ impl Live {
     /// Notes a status from outside that the master recorded.
     fn note_outside(&mut self, status: &TaskStatus) -> Result<(), NoMemory>
         ensures same { self.new.master ≡ self.old.master }
-        ensures steps { OnOk result (StepsTo IsForgetting self.old self.new) }
+        ensures tasks { OnOk result (self.new.cluster.tasks
+            ≡ overtaken_by (event.Update (record { status = status.now })) self.old.cluster.tasks) }
+        ensures body { OnOk result (self.new.out ≡ self.old.out) }
+        ensures waiting { OnOk result (self.new.waiting ≡ self.old.waiting) }
     {
         self.note_sent(status)?;
         self.cluster

@@ -1,4 +1,4 @@
-use Rattle.mes_double.proofs.Fitting.{what-ran-fits}
+use Rattle.mes_double.proofs.Fitting.{what-ran-fits, what-ran-is-there}
 use Rattle.mes_double.proofs.JoinedRuns.{hand-agrees, all-agrees}
 use Rattle.mes_double.proofs.Keyed.{acked-heard}
 use Rattle.mes_double.proofs.OneLemmas.{one-course}
@@ -24,6 +24,9 @@ returns-clause-taken c = taken-once
 
 pub returns-clause-fits : goal.returns-clause-fits
 returns-clause-fits c = what-ran-fits
+
+pub returns-clause-there : goal.returns-clause-there
+returns-clause-there c = what-ran-is-there
 
 pub returns-clause-again : goal.returns-clause-again
 returns-clause-again c = moves-nothing

@@ -1,11 +1,7 @@
 use Rattle.std.proofs.Common.{refl}
-use Rattle.mes_double_live.proofs.OpenLemmas.{opens-to}
+use Rattle.mes_double_live.proofs.OpenLemmas.{begins-to}
 use Rattle.mes_double_live.proofs.StepLemmas.{same-by}
-use Rattle.mes_double_live.proofs.CallLemmas.{with-to}
 use Rattle.mes_double_live.proofs.live.Live.call.Goals as goal
 
 pub returns-clause-steps : goal.returns-clause-steps
-returns-clause-steps c = with-to _ _ _ _ (same-by _ _ _ c.in_ok-log_call.ensures.logged refl refl refl) c.in_ok-reply.ensures.steps
-
-pub returns-clause-opens : goal.returns-clause-opens
-returns-clause-opens c = opens-to _ _ _ _ _ (same-by _ _ _ c.in_ok-log_call.ensures.logged refl refl refl) c.in_ok-reply.ensures.opens
+returns-clause-steps c = begins-to _ _ _ _ (same-by _ _ _ c.in_ok-log_call.ensures.logged refl refl refl refl) c.in_ok-reply.ensures.steps

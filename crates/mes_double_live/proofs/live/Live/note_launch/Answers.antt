@@ -7,4 +7,4 @@ use Rattle.mes_double_live.proofs.live.Live.note_launch.Goals as goal
 
 pub returns-clause-steps : goal.returns-clause-steps
 returns-clause-steps c =
-    steps-last _ _ _ _ (steps-from _ _ _ (same _ _ c.self.view_is) (body-steps (launches _ _) _ _ tt refl (ap (λ (x : ClusterState). x.tasks) c.in_ok-accepted.ensures) refl)) (wider-last replying-of-launch _ _ _ c.send_statuses.ensures.steps)
+    steps-last _ _ _ _ (steps-from _ _ _ (same _ _ c.self.view_is) (body-steps (launches _ _) _ _ tt refl refl (ap (λ (x : ClusterState). x.tasks) c.in_ok-accepted.ensures) refl)) (wider-last replying-of-launch _ _ _ c.send_statuses.ensures.steps)

@@ -1,9 +1,11 @@
-use Rattle.std.proofs.Common.{refl}
-use Rattle.mes_double_live.proofs.StepLemmas.{same, same-by, steps-from}
-use Rattle.mes_double_live.proofs.TaskLemmas.{overtaken-steps}
+use Rattle.std.proofs.Common.{◌∙◌, ap}
+use Rattle.mes_msg.specs.Event.TheVariants.{Update}
+use Rattle.mes_double_live.specs.Lives.{LiveState}
+use Rattle.mes_double_live.specs.Steps.{overtaken_by}
+use Rattle.mes_double_live.proofs.TaskLemmas.{overtaken-tasks}
 use Rattle.mes_double_live.proofs.live.Live.note_outside.Goals as goal
 
-pub returns-clause-steps : goal.returns-clause-steps
-returns-clause-steps c =
-    let overtaken = steps-from _ _ _ (same _ _ c.self.view_is) (overtaken-steps _ _ _ _ refl refl c.overtaken.ensures) in
-    steps-from _ _ _ (same-by _ _ _ c.in_ok-note_sent.ensures.noted refl refl refl) overtaken
+pub returns-clause-tasks : goal.returns-clause-tasks
+returns-clause-tasks c =
+    overtaken-tasks c.args.status.now _ _ _ c.overtaken.ensures
+    ∙ ap (λ (x : LiveState). overtaken_by (Update (record { status = c.args.status.now })) x.cluster.tasks) (c.self.view_is ∙ c.in_ok-note_sent.ensures.noted)

@@ -1,7 +1,11 @@
-use Rattle.std.proofs.Common.{ap}
-use Rattle.mes_double_live.specs.Lives.{LiveState}
-use Rattle.mes_double_live.proofs.StepLemmas.{steps-same, push-last}
+use Rattle.std.proofs.Common.{◌≡◌, ◌==◌, ap, false, length, rules}
+use Rattle.std.proofs.lemmas.Result.{on_ok_weaker}
+use Rattle.mes_msg.specs.Event.TheVariants.{Offers}
+use Rattle.mes_double_live.proofs.MakeLemmas.{all-offered}
 use Rattle.mes_double_live.proofs.live.Live.offer_due.Goals as goal
 
 pub returns-clause-steps : goal.returns-clause-steps
-returns-clause-steps c = push-last _ _ _ _ _ tt (steps-same _ _ (record { body = ap (λ (x : LiveState). x.out) c.make_offers.ensures.rest; tasks = c.in_ok-made.ensures.tasks; waiting = ap (λ (x : LiveState). x.waiting) c.make_offers.ensures.rest })) c.push.ensures.pushed
+returns-clause-steps c =
+    let full : (length c.in_ok-made.made.items == 0) ≡ false = search rules in
+    on_ok_weaker _
+    (all-offered c.in_ok-made.made.items _ _ _ _ full (ap Offers c.new.ensures) c.in_ok-made.ensures.made c.make_offers.ensures.rest c.in_ok-made.ensures.tasks) c.push.ensures.pushed

@@ -14,7 +14,7 @@ returns-clause-moves c = moves-from _ _ _ (cc) (moves-then _ _ _ c.send_due.ensu
 
 pub returns-clause-begins : goal.returns-clause-begins
 returns-clause-begins c =
-    let on = ap (λ (m : MasterState). is_some m.stream) (c.in_ok-send_all.ensures.same ∙ c.in_ok-ended.ensures.same) ∙ c.requires in
+    let on = ap (λ (m : MasterState). is_some m.stream) (c.in_ok-send_all.ensures.same ∙ c.in_ok-ended.ensures.same) ∙ c.requires.stream in
     let same = c.in_ok-beat.ensures.same ∙ c.in_ok-send_all.ensures.same ∙ c.in_ok-ended.ensures.same in
     stream-begins _ _ _ _ _ _ _ _ c.in_ok-ended.ensures.ends c.in_ok-send_all.ensures.sends (c.in_ok-beat.ensures.beats on) c.in_ok-resend_all.ensures.again same
     (steps-then _ _ _ (steps-wider sending-of-delivering _ _ c.in_ok-send_due.ensures.steps) c.in_ok-deliver_waiting.ensures.steps)

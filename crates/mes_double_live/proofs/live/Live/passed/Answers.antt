@@ -11,11 +11,11 @@ returns-clause-moves c =
     (moves-from _ _ _ (c.resend_due.ensures.same ∙ c.beat_due.ensures.same) c.send_due.ensures.moves)
 
 pub returns-then-not-has_stream-clause-steps : goal.returns-then-not-has_stream-clause-steps
-returns-then-not-has_stream-clause-steps c = steps-same _ _ (same-by _ _ _ c.note_time.ensures refl refl refl)
+returns-then-not-has_stream-clause-steps c = steps-same _ _ (same-by _ _ _ c.note_time.ensures refl refl refl refl)
 
 pub returns-clause-steps : goal.returns-clause-steps
 returns-clause-steps c =
     let time = ap (λ (live : LiveState). live.time) c.note_time.ensures in
-    let release = body-steps (releases _) _ _ time c.in_ok-release.ensures.released (ap (λ (live : LiveState). live.cluster.tasks) c.release.ensures.rest) (ap (λ (live : LiveState). live.waiting) c.release.ensures.rest) in
-    let released = steps-from _ _ _ (same-by _ _ _ c.note_time.ensures refl refl refl) release in
+    let release = body-steps (releases _) _ _ time c.release.ensures.same c.in_ok-release.ensures.released (ap (λ (live : LiveState). live.cluster.tasks) c.release.ensures.rest) (ap (λ (live : LiveState). live.waiting) c.release.ensures.rest) in
+    let released = steps-from _ _ _ (same-by _ _ _ c.note_time.ensures refl refl refl refl) release in
     time-last _ _ _ _ _ _ _ released (steps-then _ _ _ c.in_ok-deliver_waiting.ensures.steps (steps-wider sending-of-delivering _ _ c.in_ok-beat_due.ensures.steps)) c.in_ok-resend_due.ensures.steps c.send_due.ensures.steps

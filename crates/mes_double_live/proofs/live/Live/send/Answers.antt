@@ -1,5 +1,6 @@
-use Rattle.mes_double_live.proofs.StepLemmas.{relay-last}
+use Rattle.std.proofs.lemmas.Result.{on_ok_weaker}
+use Rattle.mes_double_live.proofs.WaitLemmas.{sent-delivers}
 use Rattle.mes_double_live.proofs.live.Live.send.Goals as goal
 
-pub returns-clause-steps : goal.returns-clause-steps
-returns-clause-steps c = relay-last _ _ _ _ _ (c.obeys.ensures.ignored c.if-obeys.false) c.push.ensures.pushed
+pub returns-clause-delivers : goal.returns-clause-delivers
+returns-clause-delivers c = on_ok_weaker _ (sent-delivers _ _ _ _ (c.obeys.ensures.ignored c.if-obeys.false)) c.push.ensures.pushed

@@ -1,5 +1,6 @@
 use Rattle.std.proofs.Common.{◌∙◌, refl}
-use Rattle.mes_double_live.proofs.OpenLemmas.{makes-none, pushed-makes, sends-all, sends-next}
+use Rattle.mes_double_live.proofs.OpenLemmas.{all-at, makes-none, pushed-makes, sends-all, sends-next}
+use Rattle.mes_double_live.specs.Steps.{IsNoOffers}
 use Rattle.mes_double_live.specs.Steps.Step.{sends}
 use Rattle.mes_double_live.proofs.live.Live.send_all.Goals as goal
 
@@ -11,7 +12,7 @@ loop-event-preserved c = record {
   same = c.push.ensures.same ∙ c.loop-event.invariant.same;
   sends =
       sends-next c.args.sent.now c.loop-event.event-index _ _ _ _ c.loop-event-test.true c.event-item.is c.loop-event.invariant.sends
-      (pushed-makes _ _ _ c.in_ok-push.ensures.pushed);
+      (pushed-makes _ _ _ (all-at IsNoOffers c.args.sent.now c.loop-event.event-index _ c.loop-event-test.true c.event-item.is c.requires) c.in_ok-push.ensures.pushed);
 }
 
 pub returns-clause-sends : goal.returns-clause-sends

@@ -1,8 +1,8 @@
-use Rattle.std.proofs.Common.{refl, subst, sym}
+use Rattle.std.proofs.Common.{subst, sym}
 use Rattle.mes_double_master.specs.Masters.{MasterState}
 use Rattle.mes_double_live.specs.Moving.{Moves}
 use Rattle.mes_double_live.proofs.MoveLemmas.{moves-then}
-use Rattle.mes_double_live.proofs.StepLemmas.{same-by, delivering-of-end, steps-then, steps-from, steps-wider}
+use Rattle.mes_double_live.proofs.StepLemmas.{delivering-of-end, disconnected-steps, steps-then, steps-wider}
 use Rattle.mes_double_live.proofs.OpenLemmas.{made-steps}
 use Rattle.mes_double_live.specs.Steps.Step.{clears}
 use Rattle.mes_double_live.proofs.live.Live.stop.Goals as goal
@@ -20,4 +20,4 @@ returns-clause-moves c =
 pub returns-clause-steps : goal.returns-clause-steps
 returns-clause-steps c =
     steps-then _ _ _ (steps-wider delivering-of-end _ _ c.in_ok-deliver_waiting.ensures.steps)
-    (steps-from _ _ _ (same-by _ _ _ c.break_stream.ensures.rest refl refl refl) (made-steps clears _ _ tt c.in_ok-end_stream.ensures.ends))
+    (steps-then _ _ _ (disconnected-steps _ _ c.break_stream.ensures.broken c.break_stream.ensures.rest) (made-steps clears _ _ tt c.in_ok-end_stream.ensures.ends))

@@ -1,0 +1,7 @@
+pub mod MasterLemmas
+pub mod CourseLemmas
+pub mod WorkLemmas
+pub mod SessionLemmas
+pub mod RunLemmas
+pub mod TurnLemmas
+pub mod AckedLemmas

@@ -1,0 +1,2 @@
+pub mod LiveWorlds
+pub mod Shows
