@@ -48,7 +48,7 @@ use Rattle.mes_double.proofs.TurnLemmas.Turn.{skips, offers, rescinds, reports, 
 
 -- tasks fit offers, and are of their agent
 abbrev pub Suits : List Offer → List TaskInfo → Type 0
-Suits offers tasks = Fits offers tasks × (are_there offers tasks ≡ true)
+Suits made tasks = Fits made tasks × (are_there made tasks ≡ true)
 
 suits-nothing : (os : List Offer) → Suits os []
 suits-nothing os = (fits-nothing os, refl)

@@ -386,6 +386,7 @@ launched-handles s t n call framework body tasks given view plan made is =
     is ∙ ap (λ (x : LiveState). (handled x.master call given).master) view ∙ ap (λ (c : Call). (handled s.master c given).master) made in
     record {
       done = accept_call framework body.offer_ids tasks None;
+      same = inr (tasks, refl);
       fits = made-fits s.master framework body.offer_ids tasks None given plan.fits;
       is = done;
       whole = λ whole. done ∙ whole-launch s.master framework body tasks plan given whole;
@@ -395,4 +396,4 @@ pub other-handles : (s t : LiveState) (n : MasterState) (call : Call) (given : O
     → Handles call given s.master n
 other-handles s t n call given view none is =
     let done : n ≡ (handled s.master call given).master = is ∙ ap (λ (x : LiveState). (handled x.master call given).master) view in
-    record { done = call; fits = other-fits s.master call given none; is = done; whole = λ whole. done }
+    record { done = call; same = inl refl; fits = other-fits s.master call given none; is = done; whole = λ whole. done }

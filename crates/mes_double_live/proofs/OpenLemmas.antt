@@ -47,6 +47,10 @@ makes-begins steps a b c makes after = record { rest = after.steps; allowed = af
 pub begins-only : {P : Step → Type 0} (steps : List Step) (a b : LiveState) → ChangesBy steps a b → BeginsWith P steps a b
 begins-only steps a b makes = record { rest = []; allowed = tt; leads = subst (λ (l : List Step). Leads a l b) (sym (append-nil steps)) makes.leads }
 
+-- these are the steps that come first
+pub begins-made : {P : Step → Type 0} (steps made : List Step) (a b : LiveState) → steps ≡ made → ChangesBy made a b → BeginsWith P steps a b
+begins-made {P} steps made a b is makes = subst (λ (l : List Step). BeginsWith P l a b) (sym is) (begins-only made a b makes)
+
 -- no step comes first
 pub begins-sending : {P : Step → Type 0} (steps : List Step) (a b : LiveState) → steps ≡ [] → StepsTo P a b → BeginsWith P steps a b
 begins-sending steps a b none all = record { rest = all.steps; allowed = all.allowed; leads = subst (λ (l : List Step). Leads a (l ++ all.steps) b) (sym none) all.leads }

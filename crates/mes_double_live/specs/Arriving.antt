@@ -49,7 +49,8 @@ Delivers event old new = Pushes event old new ⊎ Obeyed event old new
 
 -- ---- an event that arrives
 
--- an event that waits first joined those that wait, and nothing else changed
+-- an event that waits first joined those that wait, and nothing else changed; or only the stock and the
+-- number of busy calls may have changed
 abbrev pub WaitsAlone : List Step → LiveState → LiveState → Type 0
 WaitsAlone (waits event ∷ []) old new = new ≡ with_last event old
-WaitsAlone _ old new = Unit {0}
+WaitsAlone _ old new = new ≡ record old { cluster = new.cluster; busy = new.busy }

@@ -10,16 +10,17 @@ use Rattle.mes_double_master.specs.Masters.{MasterState, MasterAnswer, handled, 
 use Rattle.mes_double_live.specs.Lives.{LiveState}
 use Rattle.mes_double_live.specs.Opening.{opening, sending}
 use Rattle.mes_double_live.specs.Steps.{Step}
-use Rattle.mes_double_live.specs.Steps.Step.{handles, acknowledges, kills}
+use Rattle.mes_double_live.specs.Steps.Step.{handles, acknowledges, clears, kills}
 
--- what a carried out ACKNOWLEDGE or KILL does to the tasks
+-- what a carried out ACKNOWLEDGE or KILL does to the tasks, and a TEARDOWN to the stream
 abbrev pub demanded_by : Call → List Step
 demanded_by (of.Acknowledge framework body) = acknowledges body ∷ []
 demanded_by (of.Kill framework body) = kills body.task_id ∷ []
+demanded_by (of.Teardown framework) = clears ∷ []
 demanded_by _ = []
 
 -- a SUBSCRIBE with status 200 opens a stream; another call with status 202 has the events of its
--- response sent, and does to the tasks what it demands
+-- response sent, and does what it demands
 abbrev pub following : LiveState → Call → MasterAnswer → List Step
 following live call answer =
     if is_subscribe call

@@ -14,6 +14,7 @@ use Rattle.mes_msg.specs.Event.{Event}
 use Rattle.mes_msg.specs.Event.TheVariants.{Failure, Heartbeat, Message, Offers, Other, Rescind, Update}
 use Rattle.mes_msg.specs.Events as kinds
 use Rattle.mes_stream.specs.Sending.{records_of}
+use Rattle.mes_session_state.specs.Calls.{accept_call}
 use Rattle.mes_double_cluster.specs.Clusters.{status_of}
 use Rattle.mes_double_cluster.specs.Stock.{same_id}
 use Rattle.mes_double_cluster.specs.Tasks as task
@@ -91,10 +92,16 @@ Refuses (Rescind body) m = IsErr (rescind_sent m body.offer_id.value)
 Refuses (Update body) m = IsErr (update_sent m body.status)
 Refuses event m = ⊥
 
--- The test master handled the call; or another one, if the tasks that the call launches do not all fit
--- the offers that it takes, or are not of their agent. What it launched fits.
+-- `done` is the ACCEPT with these tasks instead of its own
+abbrev pub IsOfTasks : Call → Call → Type 0
+IsOfTasks (of.Accept framework body) done = (tasks : List TaskInfo) × (done ≡ accept_call framework body.offer_ids tasks None)
+IsOfTasks call done = ⊥
+
+-- The test master handled the call; or the ACCEPT with other tasks, if its own do not all fit the offers
+-- that it takes, or are not of their agent. What it launched fits.
 pub record Handles (call : Call) (given : Option (List ℕ)) (old new : MasterState) : Type 0 where
   pub done : Call
+  pub same : (done ≡ call) ⊎ IsOfTasks call done
   pub fits : LaunchFits old done given
   pub is : new ≡ (handled old done given).master
   pub whole : IsWhole old call given → new ≡ (handled old call given).master
@@ -283,12 +290,11 @@ IsAccept _ = ⊥
 abbrev pub IsSubscribe : Call → Type 0
 IsSubscribe call = is_subscribe call ≡ true
 
--- A call also may end a stream. Only ACCEPT launches tasks, and only SUBSCRIBE takes events that wait.
+-- only ACCEPT launches tasks, and only SUBSCRIBE takes events that wait
 abbrev pub IsOfCall : Call → Step → Type 0
 IsOfCall call (relays now event) = IsSubscribe call
 IsOfCall call (obeys name) = IsSubscribe call
 IsOfCall call (drops event) = IsSubscribe call
-IsOfCall call clears = Unit {0}
 IsOfCall call (launches launch tasks) = IsAccept call
 IsOfCall call step = IsReplying step
 

@@ -199,6 +199,7 @@ impl Live {
     pub fn stop(&mut self) -> Result<Option<EndedStream>, LiveFault>
         ensures moves { Moves self.old.master self.new.master }
         ensures steps { OnOk result (StepsTo IsEnding self.old self.new) }
+        ensures alone { is_some self.old.master.stream ≡ false → self.new ≡ self.old }
     {
         let Some(id) = self.current() else {
             return Ok(None);
@@ -327,6 +328,7 @@ impl Live {
     fn send_due(&mut self) -> Result<(), LiveFault>
         ensures moves { Moves self.old.master self.new.master }
         ensures steps { OnOk result (StepsTo IsSending self.old self.new) }
+        ensures alone { is_some self.old.master.stream ≡ false → self.new ≡ self.old }
     {
         if !self.has_stream() {
             return Ok(());

@@ -296,7 +296,7 @@ impl Live {
     }
 
     /// Drops all bytes that are not written.
-    fn clear(&mut self)
+    pub(super) fn clear(&mut self)
         ensures same { self.new.master ≡ self.old.master }
         ensures ends { ChangesBy (clears ∷ []) self.old self.new }
     {

@@ -33,6 +33,10 @@ impl Live {
                 self.cluster.suppress();
                 Ok(())
             }
+            Call::Teardown { .. } => {
+                self.clear();
+                Ok(())
+            }
             Call::Acknowledge { body, .. } => self.acknowledge(body),
             Call::Kill { body, .. } => self.kill(body),
             Call::Reconcile { body, .. } => self.reconcile_unknown(body.tasks.as_slice()),
