@@ -5,3 +5,4 @@ pub mod SessionLemmas
 pub mod RunLemmas
 pub mod TurnLemmas
 pub mod AckedLemmas
+pub mod AgreeLemmas

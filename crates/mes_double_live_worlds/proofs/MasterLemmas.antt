@@ -194,7 +194,7 @@ other-answer m call given other =
     (answer-if m (m.down || not (agrees m.framework (framework_of call))) _ _ (plain-answer m 403) (stream-answer m call m.stream given other))
 
 -- without a stream it is refused
-none-is : (m : MasterState) (call : Call) (given : Option (List ℕ)) → is_subscribe call ≡ false → m.stream ≡ None → handled m call given ≡ plain 403 m
+pub none-is : (m : MasterState) (call : Call) (given : Option (List ℕ)) → is_subscribe call ≡ false → m.stream ≡ None → handled m call given ≡ plain 403 m
 none-is m call given other none =
     other-is m call given other
     ∙ ap (λ (s : Option (List ℕ)). if m.down || not (agrees m.framework (framework_of call)) then plain 403 m else in_stream m call s given) none

@@ -18,7 +18,7 @@ use Rattle.mes_double.specs.declared.moves.Move.TheVariants as moves
 use Rattle.mes_double.specs.Worlds.{hearing}
 use Rattle.mes_double.specs.Courses.{Course, Follows, heard_by}
 use Rattle.mes_double.specs.Courses as course
-use Rattle.mes_double_live_worlds.specs.Shows.{is_noted, noted}
+use Rattle.mes_double_live_worlds.specs.Shows.{is_noted, noted, carried_in}
 use Rattle.mes_double_live_worlds.proofs.CourseLemmas.{course-one, noted-append}
 use Rattle.mes_double_live_worlds.proofs.MasterLemmas.{idle, marked}
 
@@ -70,12 +70,13 @@ pub record Hears (c : Course) (e : Event) (rest : List Event) : Type 0 where
   pub heard : noted to.heard ≡ noted c.heard ++ e ∷ []
   pub master : to.world.master ≡ c.world.master
   pub sent : to.world.sent ≡ c.world.sent
+  pub carried : carried_in to.arrivals ≡ carried_in c.arrivals
 
-abbrev heard-one : Course → Event → List Event → Course
+abbrev pub heard-one : Course → Event → List Event → Course
 heard-one c e events =
     record { world = record c.world { session = after c.world.session (Heard e); waiting = events }; heard = c.heard ++ e ∷ []; arrivals = c.arrivals ++ [] }
 
-hear-follows : (c : Course) (e : Event) (events : List Event) → c.world.waiting ≡ e ∷ events → Follows c moves.Hear (heard-one c e events)
+pub hear-follows : (c : Course) (e : Event) (events : List Event) → c.world.waiting ≡ e ∷ events → Follows c moves.Hear (heard-one c e events)
 hear-follows c e events is = record {
   world = sym (ap (hearing c.world) is);
   heard = sym (ap (λ (l : List Event). c.heard ++ take 1 l) is);
@@ -101,6 +102,7 @@ hears-later c u e us rest is off later = record {
       ∙ ap (λ (l : List Event). l ++ e ∷ []) (noted-append c.heard (u ∷ []) ∙ ap (λ (l : List Event). noted c.heard ++ l) (idle u [] off) ∙ append-nil (noted c.heard));
   master = later.master;
   sent = later.sent;
+  carried = later.carried ∙ ap carried_in (append-nil c.arrivals);
 }
 
 -- an event that is noted
@@ -117,6 +119,7 @@ hears-now c u e us rest is on first =
       heard = noted-append c.heard (u ∷ []) ∙ ap (λ (l : List Event). noted c.heard ++ l) (marked u [] on ∙ ap (λ (x : Event). x ∷ []) same);
       master = refl;
       sent = refl;
+      carried = ap carried_in (append-nil c.arrivals);
     }
 
 hears-if : (c : Course) (u e : Event) (us rest : List Event) (b : Bool) → is_noted u ≡ b → c.world.waiting ≡ u ∷ us → noted (u ∷ us) ≡ e ∷ rest

@@ -28,13 +28,13 @@ use Rattle.mes_double.specs.declared.moves.Move.TheVariants as moves
 use Rattle.mes_double.specs.declared.sent.Sent.{Sent}
 use Rattle.mes_double.specs.Worlds.{Wishes, resubscribing, skip, subscribe_answer, wishing}
 use Rattle.mes_double.specs.Courses.{Course, Follows, IsCourse, begun}
-use Rattle.mes_double_live_worlds.specs.LiveWorlds.{LiveWorld, Turn, Happens, IsLossless, Runs, Works, events_of, first_steps, new_live_world, opened, subscribing, subscription, working}
+use Rattle.mes_double_live_worlds.specs.LiveWorlds.{LiveWorld, Turn, Happens, carried_by, IsLossless, Runs, Works, events_of, first_steps, new_live_world, opened, subscribing, subscription, working}
 use Rattle.mes_double_live_worlds.specs.LiveWorlds.Turn.{told, passed, beat, stopped, wrote, reset, called, subscribed, heard, said, left}
-use Rattle.mes_double_live_worlds.specs.Shows.{IsOf, SessionIs, Shows, is_noted, noted}
+use Rattle.mes_double_live_worlds.specs.Shows.{IsOf, SessionIs, Shows, is_noted, noted, carried_in}
 use Rattle.mes_double_live_worlds.proofs.CourseLemmas.{AllRelayed, IsWork, Projects, Worked, all-append, course-one, course-then, noted-append, steps-project, worked-then}
 use Rattle.mes_double_live_worlds.proofs.WorkLemmas.{all-lossless, all-work, arriving-work, following-work, follows-nothing, follows-opened, resending-work, work-of-call, work-of-delivering, work-of-ending, work-of-noting, work-of-sending, work-of-taking, work-of-time}
 use Rattle.mes_double_live_worlds.proofs.MasterLemmas.{Opening, SameOpening, idle, known-agrees, marked, named-alike, of-down, of-same, opening as opens, other-answer, resubscribed, same-opening, whole-none}
-use Rattle.mes_double_live_worlds.proofs.RunLemmas.{Laws, call-projects}
+use Rattle.mes_double_live_worlds.proofs.RunLemmas.{Laws, call-projects, carried_if}
 use Rattle.mes_double_live_worlds.proofs.SessionLemmas.{Hears, hears-noted, unnoted}
 
 abbrev IsOther : Sent → Type 0
@@ -71,8 +71,9 @@ module _ (framework : Id) (ids : List (List ℕ)) (laws : Laws framework ids) wh
     -- ---- steps
 
     -- the live test master made steps, and the session did nothing
-    worked : (live : LiveState) (steps : List Step) → Worked c (events_of steps) live.master live.waiting → Next framework ids (working live steps w)
-    worked live steps work =
+    worked : (live : LiveState) (steps : List Step) (done : List ℕ) → Worked c (events_of steps) done live.master live.waiting
+        → Next framework ids (record (working live steps w) { carried = w.carried ++ done })
+    worked live steps done work =
         let p = work.project in (
           p.to,
           record {
@@ -89,6 +90,7 @@ module _ (framework : Id) (ids : List (List ℕ)) (laws : Laws framework ids) wh
                   ∙ sym (noted-append c.world.waiting (events_of steps))
                   ∙ sym p.waiting;
               sent = r.shows.sent ∙ sym p.sent;
+              carried = ap (λ (l : List ℕ). l ++ done) r.shows.carried ∙ sym p.carried;
             };
             names = λ up.
                 (let stays = p.stays (sym (of-down p.to.world.master live.master p.master) ∙ up) in
@@ -100,10 +102,15 @@ module _ (framework : Id) (ids : List (List ℕ)) (laws : Laws framework ids) wh
           },
         )
 
+    -- no call arrived
+    quiet-worked : (live : LiveState) (steps : List Step) → Worked c (events_of steps) [] live.master live.waiting → Next framework ids (working live steps w)
+    quiet-worked live steps work =
+        subst (λ (l : List ℕ). Next framework ids (record (working live steps w) { carried = l })) (append-nil w.carried) (worked live steps [] work)
+
     -- steps that are all moves or none
     steps-next : (steps : List Step) (live : LiveState) → AllByRecursion IsWork steps → Leads w.live steps live → Next framework ids (working live steps w)
     steps-next steps live work leads =
-        worked live steps (steps-project c steps w.live.master live.master w.live.waiting live.waiting r.shows.master leads.master leads.waiting work r.waits)
+        quiet-worked live steps (steps-project c steps w.live.master live.master w.live.waiting live.waiting r.shows.master leads.master leads.waiting work r.waits)
 
     works-next : {P : Step → Type 0} → ((step : Step) → P step → IsLossless step → IsWork step) → (v : LiveWorld) → Works P w v → Next framework ids v
     works-next work v (live, all, quiet, is) = subst (Next framework ids) (sym is) (steps-next all.steps live (all-work work all.steps all.allowed quiet) all.leads)
@@ -119,18 +126,20 @@ module _ (framework : Id) (ids : List (List ℕ)) (laws : Laws framework ids) wh
     -- the test master is given a call of the session, and then steps follow
     given-next : (index : ℕ) (p : Sent) (steps : List Step) (live : LiveState) → slice_get w.sent index ≡ Some p → AllByRecursion IsWork steps
         → LeadsMaster w.live.master (handles p.call (Some p.stream) ∷ steps) live.master → LeadsWaiting w.live.waiting (handles p.call (Some p.stream) ∷ steps) live.waiting
-        → Next framework ids (working live (handles p.call (Some p.stream) ∷ steps) w)
+        → Next framework ids (record (working live (handles p.call (Some p.stream) ∷ steps) w) { carried = w.carried ++ carried_if ((handled w.live.master p.call (Some p.stream)).status == 202) index })
     given-next index p steps live at work (mid, by, rest) (kept, same, more) =
         let there : slice_get c.world.sent index ≡ Some p = ap (λ (l : List Sent). slice_get l index) (sym r.shows.sent) ∙ at in
-        let a : Projects c [] mid = call-projects framework ids laws c r.list r.reached index p w.live.master mid r.shows.master there (all-get IsOther w.sent index p r.calls at) by in
-        worked live (handles p.call (Some p.stream) ∷ steps)
-        (worked-then c [] (events_of steps) mid live.master live.waiting a
-        (steps-project a.to steps mid live.master kept live.waiting a.master rest more work (subst AllRelayed (sym same) r.waits)))
+        let done = carried_if ((handled w.live.master p.call (Some p.stream)).status == 202) index in
+        let a : Projects c [] done mid = call-projects framework ids laws c r.list r.reached index p w.live.master mid r.shows.master there (all-get IsOther w.sent index p r.calls at) by in
+        subst (λ (l : List ℕ). Next framework ids (record (working live (handles p.call (Some p.stream) ∷ steps) w) { carried = w.carried ++ l })) (append-nil done)
+        (worked live (handles p.call (Some p.stream) ∷ steps) (done ++ [])
+        (worked-then c [] (events_of steps) done [] mid live.master live.waiting a
+        (steps-project a.to steps mid live.master kept live.waiting a.master rest more work (subst AllRelayed (sym same) r.waits))))
 
     carried-next : (index : ℕ) (p : Sent) (rest : List Step) (live : LiveState) → slice_get w.sent index ≡ Some p → AllByRecursion IsWork rest
         → LeadsMaster w.live.master (carrying (call_counted w.live) p.call (Some p.stream) ++ rest) live.master
         → LeadsWaiting w.live.waiting (carrying (call_counted w.live) p.call (Some p.stream) ++ rest) live.waiting
-        → Next framework ids (working live (carrying (call_counted w.live) p.call (Some p.stream) ++ rest) w)
+        → Next framework ids (record (working live (carrying (call_counted w.live) p.call (Some p.stream) ++ rest) w) { carried = w.carried ++ carried_if ((handled w.live.master p.call (Some p.stream)).status == 202) index })
     carried-next index p rest live at work master waiting =
         let other : is_subscribe p.call ≡ false = all-get IsOther w.sent index p r.calls at in
         let answer = handled w.live.master p.call (Some p.stream) in
@@ -143,19 +152,21 @@ module _ (framework : Id) (ids : List (List ℕ)) (laws : Laws framework ids) wh
     called-by : (index : ℕ) (p : Sent) (fault : Option CallFault) (rest : List Step) (live : LiveState) → fault ≢ Some Gone → slice_get w.sent index ≡ Some p → AllByRecursion IsWork rest
         → LeadsMaster w.live.master (responding fault (call_counted w.live) p.call (Some p.stream) ++ rest) live.master
         → LeadsWaiting w.live.waiting (responding fault (call_counted w.live) p.call (Some p.stream) ++ rest) live.waiting
-        → Next framework ids (working live (responding fault (call_counted w.live) p.call (Some p.stream) ++ rest) w)
+        → Next framework ids (record (working live (responding fault (call_counted w.live) p.call (Some p.stream) ++ rest) w) {
+          carried = w.carried ++ carried_if (status_by fault (handled w.live.master p.call (Some p.stream)).status == 202) index;
+        })
     called-by index p None rest live kept at work master waiting = carried-next index p rest live at work master waiting
     called-by index p (Some Busy) rest live kept at work master waiting =
-        worked live rest (steps-project c rest w.live.master live.master w.live.waiting live.waiting r.shows.master master waiting work r.waits)
+        worked live rest [] (steps-project c rest w.live.master live.master w.live.waiting live.waiting r.shows.master master waiting work r.waits)
     called-by index p (Some Unanswered) rest live kept at work master waiting = carried-next index p rest live at work master waiting
     called-by index p (Some (Slow seconds)) rest live kept at work master waiting = carried-next index p rest live at work master waiting
     called-by index p (Some Gone) rest live kept at work master waiting = absurd (kept refl)
     called-by index p (Some Reset) rest live kept at work master waiting =
-        worked live rest (steps-project c rest w.live.master live.master w.live.waiting live.waiting r.shows.master master waiting work r.waits)
+        worked live rest [] (steps-project c rest w.live.master live.master w.live.waiting live.waiting r.shows.master master waiting work r.waits)
 
     called-next : (index : ℕ) (live : LiveState) (p : Sent) → slice_get w.sent index ≡ Some p → reply_fault w.live ≢ Some Gone
         → (begins : BeginsWith (IsOfCall p.call) (first_steps w p.call (Some p.stream)) (call_counted w.live) live)
-        → Next framework ids (working live (first_steps w p.call (Some p.stream) ++ begins.rest) w)
+        → Next framework ids (record (working live (first_steps w p.call (Some p.stream) ++ begins.rest) w) { carried = w.carried ++ carried_by w index p })
     called-next index live p at kept begins =
         let other : is_subscribe p.call ≡ false = all-get IsOther w.sent index p r.calls at in
         called-by index p (reply_fault w.live) begins.rest live kept at
@@ -181,7 +192,7 @@ module _ (framework : Id) (ids : List (List ℕ)) (laws : Laws framework ids) wh
     refused-next info given steps live off work (mid, by, rest) (kept, same, more) =
         let undone : mid ≡ w.live.master = handled-is info given mid by ∙ (opens w.live.master (named info)).undone off in
         let is : IsOf c.world.master mid = of-same c.world.master w.live.master mid r.shows.master undone in
-        worked live (handles (subscription w info) given ∷ steps) (steps-project c steps mid live.master kept live.waiting is rest more work (subst AllRelayed (sym same) r.waits))
+        quiet-worked live (handles (subscription w info) given ∷ steps) (steps-project c steps mid live.master kept live.waiting is rest more work (subst AllRelayed (sym same) r.waits))
 
     -- the beginning of a stream up to SUBSCRIBED changes neither the test master nor the events that wait
     begun-at : (now : ℕ) (stream : Option (List ℕ)) (s : Event) (tail steps : List Step) (m n : MasterState) (from to : List Event)
@@ -240,7 +251,7 @@ module _ (framework : Id) (ids : List (List ℕ)) (laws : Laws framework ids) wh
       }
 
       -- the stream was opened, and steps followed
-      opened-next : (steps : List Step) (live : LiveState) (work : Worked opened-course (events_of (beats ∷ resending w.live.time (unacknowledged w.live.master) ++ steps)) live.master live.waiting)
+      opened-next : (steps : List Step) (live : LiveState) (work : Worked opened-course (events_of (beats ∷ resending w.live.time (unacknowledged w.live.master) ++ steps)) [] live.master live.waiting)
           → Next framework ids (record w { live = live; stream = opened_by 200 (handled w.live.master (subscription w info) given).master; reads = true; waiting = opened (call_counted w.live) steps })
       opened-next steps live work =
           let p = work.project in (
@@ -257,6 +268,7 @@ module _ (framework : Id) (ids : List (List ℕ)) (laws : Laws framework ids) wh
                     (p.waiting
                     ∙ ap (λ (l : List Event). noted (l ++ events_of (beats ∷ resending w.live.time (unacknowledged w.live.master) ++ steps))) events-are);
                 sent = r.shows.sent ∙ sym p.sent;
+                carried = r.shows.carried ∙ ap carried_in (sym (append-nil c.arrivals)) ∙ sym (p.carried ∙ append-nil (carried_in opened-course.arrivals));
               };
               names = λ up.
                   (let stays = p.stays (sym (of-down p.to.world.master live.master p.master) ∙ up) in
@@ -308,7 +320,7 @@ module _ (framework : Id) (ids : List (List ℕ)) (laws : Laws framework ids) wh
     idle-next : (rest : List Step) (live : LiveState) → AllByRecursion IsWork rest → LeadsMaster w.live.master rest live.master → LeadsWaiting w.live.waiting rest live.waiting
         → Next framework ids (working live rest w)
     idle-next rest live work master waiting =
-        worked live rest (steps-project c rest w.live.master live.master w.live.waiting live.waiting r.shows.master master waiting work r.waits)
+        quiet-worked live rest (steps-project c rest w.live.master live.master w.live.waiting live.waiting r.shows.master master waiting work r.waits)
 
     subscribed-by : (info : FrameworkInfo) (given : Option (List ℕ)) (fault : Option CallFault) (rest : List Step) (live : LiveState) → w.reads ≡ false → AllByRecursion IsWork rest
         → LeadsMaster w.live.master (responding fault (call_counted w.live) (subscription w info) given ++ rest) live.master
@@ -357,6 +369,7 @@ module _ (framework : Id) (ids : List (List ℕ)) (laws : Laws framework ids) wh
                 heard = noted-append w.heard (e ∷ []) ∙ ap (λ (l : List Event). l ++ noted (e ∷ [])) r.shows.heard ∙ ap (λ (l : List Event). noted c.heard ++ l) (marked e [] marks) ∙ sym h.heard;
                 waiting = λ on. sym h.waiting;
                 sent = r.shows.sent ∙ sym h.sent;
+                carried = r.shows.carried ∙ sym h.carried;
               };
               names = λ up. r.names up ∙ ap (λ (m : MasterState). m.stream) (sym h.master);
               alone = λ off. absurd (cc);
@@ -377,6 +390,7 @@ module _ (framework : Id) (ids : List (List ℕ)) (laws : Laws framework ids) wh
             heard = noted-append w.heard (e ∷ []) ∙ ap (λ (l : List Event). noted w.heard ++ l) (idle e [] off) ∙ append-nil (noted w.heard) ∙ r.shows.heard;
             waiting = λ on. sym (idle e events off) ∙ ap noted (sym is) ∙ r.shows.waiting on;
             sent = r.shows.sent;
+            carried = r.shows.carried;
           };
           names = r.names;
           alone = λ off. absurd (cc);
@@ -414,6 +428,7 @@ module _ (framework : Id) (ids : List (List ℕ)) (laws : Laws framework ids) wh
               heard = r.shows.heard ∙ ap noted (sym (append-nil c.heard));
               waiting = r.shows.waiting;
               sent = ap (λ (l : List Sent). l ++ record { call = call; stream = id } ∷ []) r.shows.sent;
+              carried = r.shows.carried ∙ ap carried_in (sym (append-nil c.arrivals));
             };
             names = r.names;
             alone = r.alone;
@@ -434,6 +449,7 @@ module _ (framework : Id) (ids : List (List ℕ)) (laws : Laws framework ids) wh
           heard = r.shows.heard;
           waiting = λ off. absurd (cc);
           sent = r.shows.sent;
+          carried = r.shows.carried;
         };
         names = r.names;
         alone = λ off. refl;
@@ -465,7 +481,7 @@ module _ (framework : Id) (ids : List (List ℕ)) (laws : Laws framework ids) wh
   begun-rel finish_after out = record {
     list = [];
     reached = refl;
-    shows = record { master = inl refl; session = refl; heard = refl; waiting = λ on. absurd (cc); sent = refl };
+    shows = record { master = inl refl; session = refl; heard = refl; waiting = λ on. absurd (cc); sent = refl; carried = refl };
     names = λ up. refl;
     alone = λ off. refl;
     calls = tt;

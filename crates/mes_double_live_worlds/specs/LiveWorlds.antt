@@ -33,10 +33,12 @@ pub record LiveWorld : Type 0 where
   pub heard : List Event
   -- the calls of the session in order, each with the id of the stream that it names
   pub sent : List Sent
+  -- the indexes of the calls that arrived and were carried out, in order
+  pub carried : List ℕ
 
 -- a new session, and a live test master without a stream
 abbrev pub new_live_world : LiveState → LiveWorld
-new_live_world live = record { live = live; session = at_first; stream = None; reads = false; waiting = []; heard = []; sent = [] }
+new_live_world live = record { live = live; session = at_first; stream = None; reads = false; waiting = []; heard = []; sent = []; carried = [] }
 
 -- ---- the events of steps
 
@@ -93,6 +95,10 @@ Works IsAllowed w v = (live : LiveState) × (all : StepsTo IsAllowed w.live live
 abbrev pub first_steps : LiveWorld → Call → Option (List ℕ) → List Step
 first_steps w call given = responding (reply_fault w.live) (call_counted w.live) call given
 
+-- the call at the index, if it is carried out: its response has status 202
+abbrev pub carried_by : LiveWorld → ℕ → Sent → List ℕ
+carried_by w index p = if call_status w.live p.call (Some p.stream) == 202 then index ∷ [] else []
+
 -- the SUBSCRIBE of the session, which names the framework if the session knows it
 abbrev pub subscription : LiveWorld → FrameworkInfo → Call
 subscription w info = subscribe_call w.session.framework info
@@ -123,7 +129,7 @@ Happens w reset v = Works IsNoting w v
 Happens w (called index) v =
     (live : LiveState) × (p : Sent) × (slice_get w.sent index ≡ Some p) × (reply_fault w.live ≢ Some Gone)
     × (begins : BeginsWith (IsOfCall p.call) (first_steps w p.call (Some p.stream)) (call_counted w.live) live)
-    × (v ≡ working live (first_steps w p.call (Some p.stream) ++ begins.rest) w)
+    × (v ≡ record (working live (first_steps w p.call (Some p.stream) ++ begins.rest) w) { carried = w.carried ++ carried_by w index p })
 Happens w (subscribed info given) v =
     (live : LiveState) × (w.reads ≡ false)
     × (begins : BeginsWith (IsOfCall (subscription w info)) (first_steps w (subscription w info) given) (call_counted w.live) live)

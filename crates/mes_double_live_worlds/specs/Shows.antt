@@ -1,5 +1,5 @@
 -- How a world of `mes_double` shows what happened between a session and a live test master.
-use Rattle.std.specs.Prelude.{◌≡◌, ◌⊎◌, Bool, true, false, List, filter, is_some}
+use Rattle.std.specs.Prelude.{◌≡◌, ◌⊎◌, ◌<◌, ◌==◌, ℕ, Bool, true, false, List, [], filter, is_some, length, map}
 use Rattle.std.specs.List.{list_any}
 use Rattle.mes_model.specs.OwedKey.{OwedKey}
 use Rattle.mes_model.specs.Owed.{owed_key_of}
@@ -9,7 +9,7 @@ use Rattle.mes_msg.specs.declared.entry.Entry.TheVariants.{Broken, Heard}
 use Rattle.mes_session_state.specs.Held.{Held, is_owed}
 use Rattle.mes_session.specs.History.{after, owed_by}
 use Rattle.mes_double_master.specs.Masters.{MasterState, stream_broke}
-use Rattle.mes_double.specs.Courses.{Course}
+use Rattle.mes_double.specs.Courses.{Arrival, Course}
 use Rattle.mes_double_live_worlds.specs.LiveWorlds.{LiveWorld}
 
 -- true for an event that may change a session: SUBSCRIBED, OFFERS, RESCIND, or an UPDATE that requires
@@ -33,7 +33,11 @@ abbrev pub SessionIs : Bool → Held → Held → Type 0
 SessionIs true session shown = session ≡ shown
 SessionIs false session shown = session ≡ after shown Broken
 
--- The course of a world shows this: but for events that change no session, the same events were
+-- the indexes of the calls that arrived with status 202, in order
+abbrev pub carried_in : List Arrival → List ℕ
+carried_in arrivals = map (λ (a : Arrival). a.index) (filter (λ (a : Arrival). a.status == 202) arrivals)
+
+-- The course of a world shows this: the same calls were carried out, and but for events that change no session, the same events were
 -- received, and the same ones wait.
 pub record Shows (c : Course) (w : LiveWorld) : Type 0 where
   pub master : IsOf c.world.master w.live.master
@@ -41,7 +45,14 @@ pub record Shows (c : Course) (w : LiveWorld) : Type 0 where
   pub heard : noted w.heard ≡ noted c.heard
   pub waiting : w.reads ≡ true → noted w.waiting ≡ noted c.world.waiting
   pub sent : w.sent ≡ c.world.sent
+  pub carried : w.carried ≡ carried_in c.arrivals
 
 -- each acknowledged key is that of an UPDATE that the session received
 abbrev pub AckedWereHeard : LiveWorld → Type 0
 AckedWereHeard w = (key : OwedKey) → is_owed key w.live.master.acked ≡ true → list_any (λ (e : Event). is_owed key (owed_by (Heard e))) w.heard ≡ true
+
+-- On a current stream that the session reads, once no event waits that changes it and all its calls were
+-- carried out, it has the outstanding offers.
+abbrev pub AllAgrees : LiveWorld → Type 0
+AllAgrees w = w.reads ≡ true → is_some w.live.master.stream ≡ true → noted w.waiting ≡ []
+    → ((i : ℕ) → i < length w.sent → list_any (λ (j : ℕ). j == i) w.carried ≡ true) → w.session.hand ≡ w.live.master.outstanding
